@@ -1,0 +1,12 @@
+pub mod Limits
+pub mod Bytes
+pub mod Pyramid
+pub mod Blocks
+pub mod Streams
+pub mod Filing
+pub mod Header
+pub mod Sound
+pub mod Answers
+pub mod Calls
+pub mod Promises
+pub mod Cases
