@@ -135,3 +135,18 @@ unfolding run
 map-run-at g from zero i k e h = absurd (omega arith)
 map-run-at g from (suc n) zero k e h = ap g (omega arith)
 map-run-at g from (suc n) (suc i) k e h = map-run-at g (from + 1) n i k (omega arith) (omega arith)
+
+pub distinct-both : {A : Type 0} (xs ys : List A) → Distinct xs → Distinct ys → ((x : A) → In x xs → In x ys → ⊥) → Distinct (xs ++ ys)
+distinct-both [] ys d e a = e
+distinct-both (x ∷ xs) ys d e a =
+    (λ i. elim (in-either x xs ys i) [ inl p ↦ d .0 p | inr q ↦ a x (inl refl) q ], distinct-both xs ys (d .1) e (λ y i. a y (inr i)))
+
+pub map-distinct : {A B : Type 0} (g : A → B) (xs : List A) → Distinct xs → ((x y : A) → In x xs → In y xs → g x ≡ g y → x ≡ y) → Distinct (map g xs)
+map-distinct g [] d e = tt
+map-distinct g (x ∷ xs) d e =
+    (λ i. let r = map-in g (g x) xs i in d .0 (rw (e x (r .0) (inl refl) (inr (r .1)) (r .2)) (r .1)), map-distinct g xs (d .1) (λ y z i j. e y z (inr i) (inr j)))
+
+pub run-distinct : (from n : ℕ) → Distinct (run from n)
+unfolding run
+run-distinct from zero = tt
+run-distinct from (suc n) = (λ i. omega (arith, run-in (from + 1) n from i), run-distinct (from + 1) n)
