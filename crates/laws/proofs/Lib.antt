@@ -20,3 +20,11 @@ pub mod Others
 pub mod Counting
 pub mod Lengths
 pub mod Bones
+pub mod Joins
+pub mod Sets
+pub mod Descs
+pub mod Lives
+pub mod Frees
+pub mod Parts
+pub mod State
+pub mod Soundness

@@ -25,8 +25,8 @@ is-both {a} {b} p q = record {
     join true b x y = y
     join false b x y = x
 
-pub is-none : {a : Bool} {A : Type 0} → Is a A → Is (not a) (A → ⊥)
-is-none {a} {A} p = record { out = λ t x. clash a t (p .back x); back = λ f. flip a (λ t. f (p .out t)) }
+pub is-not : {a : Bool} {A : Type 0} → Is a A → Is (not a) (A → ⊥)
+is-not {a} {A} p = record { out = λ t x. clash a t (p .back x); back = λ f. flip a (λ t. f (p .out t)) }
   where
     clash : (a : Bool) → T (not a) → T a → ⊥
     clash true t u = t
@@ -77,7 +77,7 @@ is-holds x xs = record { out = holds-read x xs; back = holds-in x xs }
 pub is-distinct : (xs : List ℕ) → Is (distinct xs) (Distinct xs)
 unfolding distinct
 is-distinct [] = is-yes
-is-distinct (x ∷ xs) = is-both (is-none (is-holds x xs)) (is-distinct xs)
+is-distinct (x ∷ xs) = is-both (is-not (is-holds x xs)) (is-distinct xs)
 
 pub is-below : (n : ℕ) (xs : List ℕ) → Is (below n xs) ((x : ℕ) → In x xs → x < n)
 unfolding below

@@ -80,6 +80,11 @@ distinct (x ∷ xs) = both (not (holds x xs)) (distinct xs)
 unfoldable pub below : ℕ → List ℕ → Bool
 below n xs = allB (λ x. ltb x n) xs
 
+-- those of xs that pass a test, in their order
+unfoldable pub those : (ℕ → Bool) → List ℕ → List ℕ
+those p [] = []
+those p (x ∷ xs) = pick (p x) (x ∷ those p xs) (those p xs)
+
 -- all below n, and none twice: what marks on n places find out
 unfoldable pub separate : ℕ → List ℕ → Bool
 separate n xs = both (below n xs) (distinct xs)

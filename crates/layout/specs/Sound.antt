@@ -7,7 +7,7 @@ use lib.Dec.{leb, eqb}
 use Rattle.layout.specs.Limits.{mostStreams}
 use Rattle.layout.specs.Bytes.{pick, both, run, allB, holds, distinct, separate, join}
 use Rattle.layout.specs.Blocks.{chain}
-use Rattle.layout.specs.Streams.{Desc, dataOf, dataFor, table, tableBytes, offset, slots, descOf, live, lives, descChain, streamBytes, tableBlocks, streamBlocks}
+use Rattle.layout.specs.Streams.{Desc, dataOf, dataFor, table, tableBytes, offset, slots, descOf, live, lives, frees, descChain, streamBytes, tableBlocks, streamBlocks}
 use Rattle.layout.specs.Filing.{Entry, entriesOf, goodDirectory}
 use Rattle.layout.specs.Header.{headLength, shapeOf, shiftOf, fixed, goodShift, goodRest}
 use Rattle.layout.specs.declared.Shape.{Shape}
@@ -32,11 +32,6 @@ freeForm t = both (eqb (t .reserved) 0) (eqb (t .flags) 0)
 
 abbrev pub goodForm : Shape → List ℕ → ℕ → Bool
 goodForm s t k = pick (live t k) (liveForm s (descOf t k)) (freeForm (descOf t k))
-
--- the offsets of those of ks that are free
-unfoldable pub freeIn : List ℕ → List ℕ → List ℕ
-freeIn t [] = []
-freeIn t (k ∷ ks) = pick (live t k) (freeIn t ks) (offset k ∷ freeIn t ks)
 
 -- the same numbers, each once on both sides
 abbrev pub sameSet : List ℕ → List ℕ → Bool
@@ -75,7 +70,7 @@ unfoldable pub rule5 : List ℕ → Shape → Bool
 rule5 c s =
     let t = tableBytes c s in
     both (allB (goodForm s t) (run 0 (slots t)))
-    (both (sameSet (descChain t) (freeIn t (run 0 (slots t)))) (live t 0))
+    (both (sameSet (descChain t) (frees t)) (live t 0))
 
 unfoldable pub rule6 : List ℕ → Shape → Bool
 rule6 c s = separate (s .count) (used c s)

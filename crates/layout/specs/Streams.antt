@@ -4,7 +4,7 @@ use Prim.Native.Nat.{ℕ, zero, suc, _+_, _-_, _*_, _/_, _%_, max}
 use mathlib.Core.List.{List, [], _∷_, _++_, map}
 use lib.ListN.{length, getD, set}
 use lib.Dec.{eqb}
-use Rattle.layout.specs.Bytes.{pick, num, bytes, over, end8, run}
+use Rattle.layout.specs.Bytes.{num, bytes, over, end8, run, those}
 use Rattle.layout.specs.Pyramid.{up, height, P}
 use Rattle.layout.specs.Blocks.{fan, place, node, walk, pyramid, Grown, grown, surplus, givenBack, loweredTop}
 use Rattle.layout.specs.declared.Shape.{Shape}
@@ -76,16 +76,18 @@ unfoldable pub descOf : List ℕ → ℕ → Desc
 descOf t k = descIn t (offset k)
 
 -- a descriptor whose top has all bits set is free
+unfoldable pub dead : List ℕ → ℕ → Bool
+dead t k = eqb (descOf t k .top) end8
+
 unfoldable pub live : List ℕ → ℕ → Bool
-live t k = not (eqb (descOf t k .top) end8)
+live t k = not (dead t k)
 
-unfoldable pub liveIn : List ℕ → List ℕ → List ℕ
-liveIn t [] = []
-liveIn t (k ∷ ks) = pick (live t k) (k ∷ liveIn t ks) (liveIn t ks)
-
--- the numbers of the live descriptors
+-- the numbers of the live descriptors, and the offsets of the free ones
 unfoldable pub lives : List ℕ → List ℕ
-lives t = liveIn t (run 0 (slots t))
+lives t = those (live t) (run 0 (slots t))
+
+unfoldable pub frees : List ℕ → List ℕ
+frees t = map offset (those (dead t) (run 0 (slots t)))
 
 -- the offset of the first free descriptor
 abbrev pub firstDesc : List ℕ → ℕ
