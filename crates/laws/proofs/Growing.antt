@@ -10,7 +10,7 @@ use Rattle.layout.specs.Bytes.{pick}
 use Rattle.laws.proofs.Picks.{leb-yes, leb-no}
 use Rattle.laws.proofs.Lists.{In}
 use Rattle.layout.specs.Pyramid.{level, above, height, missing, P}
-use Rattle.laws.proofs.Levels.{Next, stays, rises, grows, needs, missing-pos, P-low, P-next, above-top, one-top, one-more, height-low}
+use Rattle.laws.proofs.Levels.{Next, stays, rises, grows, missing-pos, P-low, P-next, above-top, one-top, one-more, height-low}
 use Rattle.layout.specs.Blocks.{fan, place, slotPlace, slot, node, firstFree, taken, rooted, raised, grownOne, Grown}
 use Rattle.laws.proofs.Frame.{Inside, SameIn}
 use Rattle.laws.proofs.Cells.{level-none}

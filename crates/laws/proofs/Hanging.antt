@@ -34,6 +34,10 @@ NotSlot s b j i = slotPlace s b j ≤ i → i < slotPlace s b j + 4 → ⊥
 abbrev pub Beyond : Shape → List ℕ → ℕ → Type 0
 Beyond s xs i = (x : ℕ) → In x xs → Inside s x i → ⊥
 
+-- no block holds a byte of the header
+pub header-beyond : (s : Shape) (xs : List ℕ) (i : ℕ) → i < s .base → Beyond s xs i
+header-beyond s xs i h x k a = omega arith
+
 -- block b is not free, and its slot j can be set
 pub record Ready (c : List ℕ) (s : Shape) (b j : ℕ) (free : List ℕ) : Type 0 where
   pub room : Room c s free

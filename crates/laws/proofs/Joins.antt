@@ -1,18 +1,16 @@
 -- Lists made of lists: where nothing stands twice, how long they are, and that all numbers stand there.
 use mathlib.Core.Path.{_≡_, refl, sym, ap, ap₂, _∙_}
-use mathlib.Core.Logic.{_≢_, _⊎_, inl, inr}
+use mathlib.Core.Logic.{_≢_, inl, inr}
 use mathlib.Core.Bool.{Bool, true, false}
 use mathlib.Core.List.{List, [], _∷_, _++_, map}
-use Prim.Native.Nat.{ℕ, zero, suc, _+_, _-_, _≤_, _<_}
-use native.Mathlib.Decide.{ℕ-discrete}
+use Prim.Native.Nat.{ℕ, zero, suc, _+_, _≤_, _<_}
 use native.Mathlib.Omega.{arith}
 use lib.ListN.{length, length-append}
-use lib.Dec.{T}
-use Rattle.layout.specs.Bytes.{pick, run, holds, join}
+use Rattle.layout.specs.Bytes.{holds, join}
 use Rattle.laws.proofs.Lists.{In, Distinct, in-left, in-right, in-either, distinct-left, distinct-right, distinct-apart, distinct-both, holds-read, holds-in}
-use Rattle.laws.proofs.Tests.{is-holds}
-use Rattle.laws.proofs.Counting.{length-rising}
-use Rattle.layout.specs.Blocks.{rising}
+use Rattle.laws.proofs.Counting.{length-rising, rising-few}
+
+-- ---- a number for each, and their sum
 
 unfoldable pub total : {A : Type 0} → (A → ℕ) → List A → ℕ
 total g [] = 0
@@ -22,6 +20,11 @@ module _ {A : Type 0} where
   pub total-cons : (g : A → ℕ) (k : A) (ks : List A) → total g (k ∷ ks) ≡ g k + total g ks
   unfolding total
   total-cons g k ks = refl
+
+  pub total-append : (g : A → ℕ) (xs ys : List A) → total g (xs ++ ys) ≡ total g xs + total g ys
+  unfolding total
+  total-append g [] ys = omega arith
+  total-append g (x ∷ xs) ys = omega (arith, total-append g xs ys)
 
   pub total-agree : (g g′ : A → ℕ) (ks : List A) → ((k : A) → In k ks → g′ k ≡ g k) → total g′ ks ≡ total g ks
   unfolding total
@@ -33,15 +36,17 @@ module _ {A : Type 0} where
   total-has g k (x ∷ ks) (inl e) = rw e (omega arith)
   total-has g k (x ∷ ks) (inr i) = omega (arith, total-has g k ks i)
 
-  total-insert : (g : A → ℕ) (xs : List A) (x : A) (ys : List A) → total g (xs ++ x ∷ ys) ≡ g x + total g (xs ++ ys)
+  pub total-insert : (g : A → ℕ) (xs : List A) (x : A) (ys : List A) → total g (xs ++ x ∷ ys) ≡ g x + total g (xs ++ ys)
   unfolding total
   total-insert g [] x ys = refl
   total-insert g (z ∷ xs) x ys = omega (arith, total-insert g xs x ys)
 
+  -- what stands in a list stands between two parts of it
   pub in-split : (x : A) (ys : List A) → In x ys → (us bs : List A) × (ys ≡ us ++ x ∷ bs)
   in-split x (y ∷ ys) (inl e) = ([], ys, rw e)
   in-split x (y ∷ ys) (inr i) = let r = in-split x ys i in (y ∷ r .0, r .1, ap {B = List A} (λ l. y ∷ l) (r .2))
 
+  -- and what is not x stands there without x too
   pub without : (x z : A) (us bs : List A) → (z ≡ x → ⊥) → In z (us ++ x ∷ bs) → In z (us ++ bs)
   without x z [] bs n (inl e) = absurd (n e)
   without x z [] bs n (inr i) = i
@@ -58,8 +63,8 @@ module _ {A : Type 0} where
       let l = length-append (r .0) (x ∷ r .1) in
       let l′ = length-append (r .0) (r .1) in
       rw (r .2, total-insert g (r .0) x (r .1))
-          (ap (λ (t : ℕ). g x + t) (total-same g xs (r .0 ++ r .1) (d .1) (omega (arith, ap length (r .2)))
-            (λ z i. without x z (r .0) (r .1) (λ e. d .0 (rw (← e) i)) (rw (r .2) at (all z (inr i))))))
+      (ap (λ (t : ℕ). g x + t) (total-same g xs (r .0 ++ r .1) (d .1) (omega (arith, ap length (r .2)))
+      (λ z i. without x z (r .0) (r .1) (λ e. d .0 (rw (← e) i)) (rw (r .2) at (all z (inr i))))))
 
 pub total-map : {A B : Type 0} (g : B → ℕ) (h : A → B) (ks : List A) → total g (map h ks) ≡ total (λ k. g (h k)) ks
 unfolding total
@@ -67,7 +72,8 @@ total-map g h [] = refl
 total-map g h (k ∷ ks) = ap (λ (x : ℕ). g (h k) + x) (total-map g h ks)
 
 -- one of them changes
-pub total-change : (g g′ : ℕ → ℕ) (k : ℕ) (ks : List ℕ) → Distinct ks → In k ks → ((j : ℕ) → In j ks → j ≢ k → g′ j ≡ g j) → total g′ ks + g k ≡ total g ks + g′ k
+pub total-change : (g g′ : ℕ → ℕ) (k : ℕ) (ks : List ℕ) → Distinct ks → In k ks → ((j : ℕ) → In j ks → j ≢ k → g′ j ≡ g j)
+    → total g′ ks + g k ≡ total g ks + g′ k
 unfolding total
 total-change g g′ k (x ∷ ks) d (inl e) h =
     let t = total-agree g g′ ks (λ j i. h j (inr i) (λ u. d .0 (rw (← e, ← u) i))) in
@@ -75,6 +81,8 @@ total-change g g′ k (x ∷ ks) d (inl e) h =
 total-change g g′ k (x ∷ ks) d (inr i) h =
     let n : x ≢ k = λ u. d .0 (rw u i) in
     omega (arith, h x (inl refl) n, total-change g g′ k ks (d .1) i (λ j l. h j (inr l)))
+
+-- ---- a list for each, one after the other
 
 module _ (f : ℕ → List ℕ) where
   pub in-join : (k b : ℕ) (ks : List ℕ) → In k ks → In b (f k) → In b (join f ks)
@@ -86,17 +94,20 @@ module _ (f : ℕ → List ℕ) where
   unfolding join
   join-in b [] i = absurd i
   join-in b (x ∷ ks) i = elim (in-either b (f x) (join f ks) i) [
-      inl p ↦ (x, inl refl, p)
-    | inr q ↦ (let r = join-in b ks q in (r .0, inr (r .1), r .2)) ]
+    | inl p ↦ (x, inl refl, p)
+    | inr q ↦ (let r = join-in b ks q in (r .0, inr (r .1), r .2))
+  ]
 
+  -- each list has nothing twice, and no two of them share: nothing stands twice in all
   pub distinct-join : (ks : List ℕ) → Distinct ks → ((k : ℕ) → In k ks → Distinct (f k))
       → ((k k′ : ℕ) → In k ks → In k′ ks → k ≢ k′ → (b : ℕ) → In b (f k) → In b (f k′) → ⊥) → Distinct (join f ks)
   unfolding join
   distinct-join [] d e a = tt
   distinct-join (x ∷ ks) d e a =
       distinct-both (f x) (join f ks) (e x (inl refl)) (distinct-join ks (d .1) (λ k i. e k (inr i)) (λ k k′ i i′. a k k′ (inr i) (inr i′)))
-          (λ b p q. let r = join-in b ks q in a x (r .0) (inl refl) (inr (r .1)) (λ u. d .0 (rw u (r .1))) b p (r .2))
+      (λ b p q. let r = join-in b ks q in a x (r .0) (inl refl) (inr (r .1)) (λ u. d .0 (rw u (r .1))) b p (r .2))
 
+  -- and back
   pub join-distinct : (ks : List ℕ) → Distinct (join f ks) → (k : ℕ) → In k ks → Distinct (f k)
   unfolding join
   join-distinct (x ∷ ks) d k (inl e) = rw e (distinct-left (f x) (join f ks) d)
@@ -119,23 +130,17 @@ module _ (f : ℕ → List ℕ) where
   join-map g [] = refl
   join-map g (k ∷ ks) = ap (λ (l : List ℕ). f (g k) ++ l) (join-map g ks)
 
--- ---- n numbers below n, none twice, are all of them
+-- ---- all numbers below n
 
-rising-few : (n m : ℕ) (xs : List ℕ) → length (rising n m xs) ≤ n
-unfolding rising
-rising-few zero m xs = omega arith
-rising-few (suc n) m xs = go (holds m xs) (rising n (suc m) xs) (rising-few n (suc m) xs)
-  where
-    go : (t : Bool) (r : List ℕ) → length r ≤ n → length (pick t (m ∷ r) r) ≤ suc n
-    go true r h = omega arith
-    go false r h = omega arith
-
+-- n numbers below n, none twice, are all of them
 pub all-of : (n : ℕ) (xs : List ℕ) → Distinct xs → ((x : ℕ) → In x xs → x < n) → length xs ≡ n → (b : ℕ) → b < n → In b xs
 all-of n xs d low e b h = go (holds b xs) refl
   where
     below : (x : ℕ) → In x (b ∷ xs) → x < n
     below x (inl u) = rw u h
     below x (inr i) = low x i
+
+    -- were b not there, it would make n + 1 of them
     go : (t : Bool) → holds b xs ≡ t → In b xs
     go true u = holds-read b xs (rw u tt)
     go false u =

@@ -212,24 +212,13 @@ module _ (f : ℕ) (two : 2 ≤ f) where
       (λ d h e q r. rw (missing-next d h e) (omega arith))
       (λ d h n. rw (missing-one d (omega arith) n) (omega arith))
 
-  -- the blocks that one data block more takes
-  pub needs : ℕ → ℕ
-  needs zero = 1
-  needs (suc d) = missing f (height f (suc (suc d))) (suc d) + (height f (suc (suc d)) - height f (suc d))
-
-  pub P-needs : (d : ℕ) → P f (suc d) ≡ P f d + needs d
-  unfolding needs
-  P-needs zero = rw (P-low 1 (omega arith), P-low 0 (omega arith))
-  P-needs (suc d) = go (grows (suc d) (omega arith))
-    where
-      go : Next (suc d) → P f (suc (suc d)) ≡ P f (suc d) + needs (suc d)
-      go (stays a) = omega (arith, P-next (suc d) (omega arith))
-      go (rises a b c) = omega (arith, P-next (suc d) (omega arith))
-
   pub P-rises : (d : ℕ) → P f d < P f (suc d)
-  unfolding needs
   P-rises zero = rw (P-low 1 (omega arith), P-low 0 (omega arith)) (omega arith)
-  P-rises (suc d) = omega (arith, P-needs (suc d), missing-pos (suc d) (omega arith))
+  P-rises (suc d) = go (grows (suc d) (omega arith))
+    where
+      go : Next (suc d) → P f (suc d) < P f (suc (suc d))
+      go (stays a) = omega (arith, P-next (suc d) (omega arith), missing-pos (suc d) (omega arith))
+      go (rises a b c) = omega (arith, P-next (suc d) (omega arith), missing-pos (suc d) (omega arith))
 
   pub P-mono : (a b : ℕ) → a ≤ b → P f a ≤ P f b
   P-mono a zero h = rw (let e : a ≡ 0 = omega arith in e) (omega arith)

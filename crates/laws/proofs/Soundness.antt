@@ -9,25 +9,23 @@ use native.Mathlib.Omega.{arith}
 use lib.ListN.{length}
 use lib.Dec.{T, eqb, leb}
 use Rattle.layout.specs.Limits.{leastShift, mostShift, mostBlocks, mostStreams}
-use Rattle.layout.specs.Bytes.{pick, both, end8, run, same, separate, join}
+use Rattle.layout.specs.Bytes.{pick, both, end8, run, separate, join}
 use Rattle.layout.specs.Blocks.{chain}
 use Rattle.layout.specs.Streams.{Desc, dataOf, dataFor, table, tableBytes, offset, slots, descOf, live, lives, frees, descChain, stream, streamBytes, tableBlocks}
-use Rattle.layout.specs.Filing.{Entry, entries, entriesOf, reads, goodName, lookIn, distinctNames, goodDirectory}
+use Rattle.layout.specs.Filing.{entries, entriesOf}
 use Rattle.layout.specs.Header.{headLength, shapeOf, shiftOf, fixed}
 use Rattle.layout.specs.Sound.{rightDesc, liveForm, freeForm, goodForm, used, reached, rule1, rule2, rule3, rule4, rule5, rule6, rule7, rule8, broken}
 use Rattle.laws.proofs.Lists.{In, Distinct, run-in, in-run, map-in}
-use Rattle.laws.proofs.Tests.{Is, is-both, is-pick, is-leb, is-eqb, is-yes, is-all, is-distinct, is-below, is-same, is-zero}
+use Rattle.laws.proofs.Tests.{Is, is-itself, is-both, is-pick, is-leb, is-eqb, is-yes, is-all, is-distinct, is-below, is-zero}
 use Rattle.laws.proofs.Joins.{in-join, join-distinct}
 use Rattle.laws.proofs.Sets.{Same, is-same-set}
+use Rattle.laws.proofs.Entries.{indices}
+use Rattle.laws.proofs.Directories.{is-directory}
 use Rattle.laws.proofs.Chain.{Good}
 use Rattle.laws.proofs.Lives.{is-live, lives-in}
 use Rattle.laws.proofs.Parts.{Own, blocks, Parts}
 use Rattle.laws.proofs.State.{slotsOf, livesOf, own, owners, Headed, Right, Form, Filed, Core, Whole, good, room-long, right-fits, length-table, owners-distinct, used-is, to-parts, parts-many, parts-low, parts-distinct, use-low, use-distinct}
 use Rattle.layout.specs.declared.Shape.{Shape}
-
--- a test that is its own statement
-is-itself : (b : Bool) → Is b (T b)
-is-itself b = record { out = λ t. t; back = λ t. t }
 
 -- ---- the parts of the rules
 
@@ -53,27 +51,6 @@ is-form s t k =
 pub is-separate : (n : ℕ) (xs : List ℕ) → Is (separate n xs) (((x : ℕ) → In x xs → x < n) × Distinct xs)
 unfolding separate
 is-separate n xs = is-both (is-below n xs) (is-distinct xs)
-
--- a name that no entry has
-pub is-unknown : (es : List Entry) (name : List ℕ) → Is (eqb (lookIn es name) (length es)) (In name (map (λ e. e .name) es) → ⊥)
-unfolding lookIn
-is-unknown [] name = record { out = λ t i. i; back = λ f. tt }
-is-unknown (e ∷ es) name = go (same (e .name) name) (is-same (e .name) name) (is-unknown es name)
-  where
-    go : (t : Bool) → Is t (e .name ≡ name) → Is (eqb (lookIn es name) (length es)) (In name (map (λ e. e .name) es) → ⊥)
-        → Is (eqb (pick t 0 (suc (lookIn es name))) (suc (length es))) (In name (map (λ e. e .name) (e ∷ es)) → ⊥)
-    go true a r = record { out = λ t. absurd (omega (arith, is-eqb 0 (suc (length es)) .out t)); back = λ f. absurd (f (inl (sym (a .out tt)))) }
-    go false a r = record { out = λ t. elim [ inl u ↦ a .back (sym u) | inr i ↦ r .out (lower t) i ]; back = λ f. raise (r .back (λ i. f (inr i))) }
-      where
-        lower : T (eqb (suc (lookIn es name)) (suc (length es))) → T (eqb (lookIn es name) (length es))
-        lower t = is-eqb (lookIn es name) (length es) .back (omega (arith, is-eqb (suc (lookIn es name)) (suc (length es)) .out t))
-        raise : T (eqb (lookIn es name) (length es)) → T (eqb (suc (lookIn es name)) (suc (length es)))
-        raise t = is-eqb (suc (lookIn es name)) (suc (length es)) .back (omega (arith, is-eqb (lookIn es name) (length es) .out t))
-
-is-names : (es : List Entry) → Is (distinctNames es) (Distinct (map (λ e. e .name) es))
-unfolding distinctNames
-is-names [] = is-yes
-is-names (e ∷ es) = is-both (is-unknown es (e .name)) (is-names es)
 
 -- ---- the rules
 
@@ -131,14 +108,10 @@ unfolding rule7
 is-rule7 c s = is-both (is-separate (s .count) (used c s ++ chain c s)) (is-eqb _ (s .count))
 
 is-rule8 : (c : List ℕ) (s : Shape) → Is (rule8 c s) (Filed (streamBytes c s 0) (livesOf c s))
-unfolding rule8 goodDirectory reached entriesOf
+unfolding rule8 reached entriesOf
 is-rule8 c s =
-    let b = streamBytes c s 0 in
-    let d = is-both (is-itself (reads b)) (is-both (is-all (λ e. goodName (e .name)) (λ e. T (goodName (e .name))) (entries b) (λ e. is-itself (goodName (e .name)))) (is-names (entries b))) in
-    let r = is-both d (is-same-set (0 ∷ map (λ e. e .index) (entries b)) (livesOf c s)) in
-    record {
-      out = λ t. (let a = r .out t in record { read = a .0 .0; good = a .0 .1 .0; names = a .0 .1 .1; indices = a .1 });
-      back = λ w. r .back ((w .read, (w .good, w .names)), w .indices) }
+    let r = is-both (is-directory (streamBytes c s 0)) (is-same-set (0 ∷ indices (entries (streamBytes c s 0))) (livesOf c s)) in
+    record { out = λ t. record { directory = r .out t .0; reach = r .out t .1 }; back = λ w. r .back (w .directory, w .reach) }
 
 -- ---- all of them
 

@@ -12,12 +12,14 @@ use Rattle.layout.specs.Limits.{leastShift, mostShift, mostBlocks, mostStreams}
 use Rattle.layout.specs.Bytes.{end8, join}
 use Rattle.layout.specs.Blocks.{fan, chain, pyramid}
 use Rattle.layout.specs.Streams.{Desc, dataOf, dataFor, contents, table, tableBytes, offset, slots, lives, frees, descChain, stream, streamBytes, tableBlocks, streamBlocks}
-use Rattle.layout.specs.Filing.{Entry, entries, reads, goodName}
+use Rattle.layout.specs.Filing.{entries}
 use Rattle.layout.specs.Header.{headLength, shaped, shapeOf, shiftOf, fixed}
 use Rattle.layout.specs.Sound.{used}
 use Rattle.laws.proofs.Lists.{In, Distinct, in-left, in-right, in-either, in-map, map-in, distinct-left, distinct-right, distinct-apart, distinct-both, map-distinct}
 use Rattle.laws.proofs.Joins.{total, total-agree, distinct-join, join-distinct, join-apart, in-join, join-in, length-join, join-map, all-of}
 use Rattle.laws.proofs.Sets.{Same}
+use Rattle.laws.proofs.Entries.{indices}
+use Rattle.laws.proofs.Directories.{Directory}
 use Rattle.laws.proofs.Levels.{div-is, up-covers}
 use Rattle.laws.proofs.Chain.{Good, Room, chain-room, room-chain}
 use Rattle.laws.proofs.Hanging.{two}
@@ -67,10 +69,8 @@ pub record Form (s : Shape) (t : Desc) : Type 0 where
 
 -- rule 8, of the root's bytes r
 pub record Filed (r : List ℕ) (ks : List ℕ) : Type 0 where
-  pub read : T (reads r)
-  pub good : (e : Entry) → In e (entries r) → T (goodName (e .name))
-  pub names : Distinct (map (λ e. e .name) (entries r))
-  pub indices : Same (0 ∷ map (λ e. e .index) (entries r)) ks
+  pub directory : Directory r
+  pub reach : Same (0 ∷ indices (entries r)) ks
 
 -- rules 1 to 7, of a card of shape s
 pub record Core (c : List ℕ) (s : Shape) : Type 0 where

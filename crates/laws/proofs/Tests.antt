@@ -15,6 +15,10 @@ pub record Is (b : Bool) (A : Type 0) : Type 0 where
   pub out : T b → A
   pub back : A → T b
 
+-- a test that is its own statement
+pub is-itself : (b : Bool) → Is b (T b)
+is-itself b = record { out = λ t. t; back = λ t. t }
+
 pub is-both : {a b : Bool} {A B : Type 0} → Is a A → Is b B → Is (both a b) (A × B)
 is-both {a} {b} p q = record {
   out = λ t. (p .out (both-left a b t), q .out (both-right a b t));
