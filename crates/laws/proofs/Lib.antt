@@ -38,3 +38,7 @@ pub mod Heads
 pub mod Cores
 pub mod InTable
 pub mod Edits
+pub mod Moves
+pub mod Adding
+pub mod Reuse
+pub mod Extend
