@@ -74,7 +74,8 @@ blank-form s g =
     record {
       alive = λ n. record { flags = refl; reserved = rw z (omega arith); fits = rw (zero-div (s .size)) (omega arith) };
       empty = λ n e. refl;
-      free = λ e. absurd (omega arith) }
+      free = λ e. absurd (omega arith);
+    }
 
 pub no-bytes : (c : List ℕ) (s : Shape) (top d : ℕ) → contents c s top d 0 ≡ []
 unfolding contents run
@@ -98,8 +99,9 @@ module _ (c c₁ : List ℕ) (s : Shape) (w : Core c s) (j : ℕ) (xs free ds : 
   only : (k : ℕ) → In k (livesOf c₁ s) → In k (livesOf c s) ⊎ (k ≡ j)
   unfolding stream
   only k i = elim (ℕ-discrete k j) [
-      yes e ↦ inr e
-    | no n ↦ (let r = lives-in (tableBytes c₁ s) k i in let l = a .inside k (r .0) n in inl (in-lives (tableBytes c s) k l (rw (a .others k l n) at (r .1)))) ]
+    | yes e ↦ inr e
+    | no n ↦ (let r = lives-in (tableBytes c₁ s) k i in let l = a .inside k (r .0) n in inl (in-lives (tableBytes c s) k l (rw (a .others k l n) at (r .1))))
+  ]
 
   own₁ : (k : ℕ) → In k (owners c s) → own c₁ s k ≡ retabled (own c s) o k
   own₁ zero i = a .owner
@@ -118,8 +120,10 @@ module _ (c c₁ : List ℕ) (s : Shape) (w : Core c s) (j : ℕ) (xs free ds : 
       to : (k : ℕ) → In k (owners c₁ s) → In k (suc j ∷ owners c s)
       to k (inl e) = inr (inl e)
       to k (inr i) = let r = map-in suc k (livesOf c₁ s) i in elim (only (r .0) (r .1)) [
-          inl u ↦ inr (inr (rw (r .2) (in-map suc (r .0) (livesOf c s) u)))
-        | inr u ↦ inl (r .2 ∙ ap suc u) ]
+        | inl u ↦ inr (inr (rw (r .2) (in-map suc (r .0) (livesOf c s) u)))
+        | inr u ↦ inl (r .2 ∙ ap suc u)
+      ]
+
       fro : (k : ℕ) → In k (suc j ∷ owners c s) → In k (owners c₁ s)
       fro k (inl e) = inr (rw e (in-map suc j (livesOf c₁ s) there))
       fro k (inr (inl e)) = inl e
@@ -127,8 +131,9 @@ module _ (c c₁ : List ℕ) (s : Shape) (w : Core c s) (j : ℕ) (xs free ds : 
 
   form₁ : (k : ℕ) → k < slotsOf c₁ s → Form s (stream c₁ s k)
   form₁ k l = elim (ℕ-discrete k j) [
-      yes e ↦ rw (e, a .mine) (blank-form s (core-good c s w))
-    | no n ↦ rw (a .others k (a .inside k l n) n) (w .forms k (a .inside k l n)) ]
+    | yes e ↦ rw (e, a .mine) (blank-form s (core-good c s w))
+    | no n ↦ rw (a .others k (a .inside k l n) n) (w .forms k (a .inside k l n))
+  ]
 
   root-lives : In 0 (livesOf c s)
   unfolding stream
@@ -141,16 +146,17 @@ module _ (c c₁ : List ℕ) (s : Shape) (w : Core c s) (j : ℕ) (xs free ds : 
   pub described : Described c c₁ s j xs free
   unfolding streamBytes streamBlocks
   described = record {
-      core = core₁;
-      fresh = a .fresh;
-      there = there;
-      old = old;
-      only = only;
-      empty = ap (λ (d : Desc). text c₁ s (ownOf s d)) (a .mine) ∙ no-bytes c₁ s 0 _;
-      chain-is = room-chain c₁ s free (parts₁ .room) (omega (arith, parts₁ .sum));
-      descs = desc₁;
-      blocks-of = λ k i. ap (λ (d : Desc). blocks c₁ s (ownOf s d)) (desc₁ k i) ∙ a .kept k i .blocks;
-      bytes-of = λ k i. ap (λ (d : Desc). text c₁ s (ownOf s d)) (desc₁ k i) ∙ a .kept k i .bytes;
-      from = a .from;
-      long = a .long;
-      rest-same = a .rest-same }
+    core = core₁;
+    fresh = a .fresh;
+    there = there;
+    old = old;
+    only = only;
+    empty = ap (λ (d : Desc). text c₁ s (ownOf s d)) (a .mine) ∙ no-bytes c₁ s 0 _;
+    chain-is = room-chain c₁ s free (parts₁ .room) (omega (arith, parts₁ .sum));
+    descs = desc₁;
+    blocks-of = λ k i. ap (λ (d : Desc). blocks c₁ s (ownOf s d)) (desc₁ k i) ∙ a .kept k i .blocks;
+    bytes-of = λ k i. ap (λ (d : Desc). text c₁ s (ownOf s d)) (desc₁ k i) ∙ a .kept k i .bytes;
+    from = a .from;
+    long = a .long;
+    rest-same = a .rest-same;
+  }

@@ -46,10 +46,12 @@ module _ (s : Shape) (good : Good s) where
   -- a byte is in one block at most
   pub one-block : (b b′ i : ℕ) → Inside s b i → Inside s b′ i → b ≡ b′
   one-block b b′ i p q = elim (decLt b b′) [
-      yes l ↦ absurd (omega (arith, mul-le-mul-right (s .size) l))
+    | yes l ↦ absurd (omega (arith, mul-le-mul-right (s .size) l))
     | no n ↦ elim (decLt b′ b) [
-        yes l ↦ absurd (omega (arith, mul-le-mul-right (s .size) l))
-      | no n′ ↦ omega arith ] ]
+      | yes l ↦ absurd (omega (arith, mul-le-mul-right (s .size) l))
+      | no n′ ↦ omega arith
+    ]
+  ]
 
   pub same-next : (c c′ : List ℕ) (b : ℕ) → SameIn s c c′ b → next c′ s b ≡ next c s b
   unfolding next
@@ -89,7 +91,7 @@ module _ (s : Shape) (good : Good s) where
         let k = i - place s x in
         let l : k < length (replicate (s .size) (let z : ℕ = 0 in z)) = rw length-replicate (omega arith) in
         rw (taken-is, put-out 8 zeroed (s .first) (next c s x) i (omega arith), over-in c (place s x) (replicate (s .size) 0) i k (omega arith) l (omega (arith, within c (x ∷ xs) r x k (r .low x (inl refl)) (omega arith))))
-            (getD-replicate (s .size) k 0 0 (omega arith))
+        (getD-replicate (s .size) k 0 0 (omega arith))
 
     -- a block other than x keeps its bytes
     pub taken-same : (b : ℕ) → b ≢ x → SameIn s c (taken c s) b
@@ -97,14 +99,15 @@ module _ (s : Shape) (good : Good s) where
 
     pub taken-next : firstFree (taken c s) s ≡ next c s x
     taken-next = rw taken-is (num-put-same 8 zeroed (s .first) (next c s x) (links-lt c (next c s x) xs (r .links .2) (λ y i. r .low y (inr i)))
-            (rw length-over (omega (arith, good .header, r .long))))
+        (rw length-over (omega (arith, good .header, r .long))))
 
     pub taken-room : Room (taken c s) s xs
     taken-room = record {
-        long = rw taken-long (r .long);
-        links = rw taken-next (links-same (next c s) (next (taken c s) s) (next c s x) xs (r .links .2) (λ y i. same-next c (taken c s) y (taken-same y (λ e. r .apart .0 (rw (← e) i)))));
-        low = λ y i. r .low y (inr i);
-        apart = r .apart .1 }
+      long = rw taken-long (r .long);
+      links = rw taken-next (links-same (next c s) (next (taken c s) s) (next c s x) xs (r .links .2) (λ y i. same-next c (taken c s) y (taken-same y (λ e. r .apart .0 (rw (← e) i)))));
+      low = λ y i. r .low y (inr i);
+      apart = r .apart .1;
+    }
 
   -- a slot of a block that is not free is set
   module _ (c : List ℕ) (xs : List ℕ) (r : Room c s xs) (b j v : ℕ) (low : b < s .count) (fits : j < fan s) where
@@ -122,7 +125,8 @@ module _ (s : Shape) (good : Good s) where
 
     pub slotted-room : (In b xs → ⊥) → Room slotted s xs
     slotted-room n = record {
-        long = rw length-put (r .long);
-        links = rw (num-put 4 c (slotPlace s b j) v 8 (s .first) (omega (arith, good .header))) (links-same (next c s) (next slotted s) (firstFree c s) xs (r .links) (λ y i. same-next c slotted y (slotted-same y (λ e. n (rw (← e) i)))));
-        low = r .low;
-        apart = r .apart }
+      long = rw length-put (r .long);
+      links = rw (num-put 4 c (slotPlace s b j) v 8 (s .first) (omega (arith, good .header))) (links-same (next c s) (next slotted s) (firstFree c s) xs (r .links) (λ y i. same-next c slotted y (slotted-same y (λ e. n (rw (← e) i)))));
+      low = r .low;
+      apart = r .apart;
+    }

@@ -26,8 +26,9 @@ use Rattle.layout.specs.declared.Shape.{Shape}
 -- a pyramid has no fewer blocks than data blocks
 pub P-has : (f : ℕ) (t : 2 ≤ f) (d : ℕ) → d ≤ P f d
 P-has f t d = elim (decLt 1 d) [
-    yes l ↦ rw (P-high f t d l) (omega arith)
-  | no n ↦ rw (P-low f t d (omega arith)) (omega arith) ]
+  | yes l ↦ rw (P-high f t d l) (omega arith)
+  | no n ↦ rw (P-low f t d (omega arith)) (omega arith)
+]
 
 module _ (c : List ℕ) (s : Shape) (w : Core c s) where
   pub core-good : Good s
@@ -78,13 +79,14 @@ module _ (c : List ℕ) (s : Shape) (w : Core c s) where
       → ((k : ℕ) → k < slotsOf c′ s → Form s (stream c′ s k)) → Frees (tableBytes c′ s) (slotsOf c′ s) xs → stream c′ s 0 .top ≢ end8
       → Parts c′ s (owners c′ s) (own c′ s) free → Core c′ s
   core-of c′ xs free long head size some few right forms frees root p = record {
-      shape-is = shape-same c c′ s (w .shape-is) long head;
-      headed = headed-same c c′ s (w .shape-is) long head (w .headed);
-      size = size;
-      some = some;
-      few = few;
-      right = right;
-      forms = forms;
-      chained = frees-chained (tableBytes c′ s) xs frees;
-      root = root;
-      parts = rw (room-chain c′ s free (p .room) (omega (arith, p .sum))) p }
+    shape-is = shape-same c c′ s (w .shape-is) long head;
+    headed = headed-same c c′ s (w .shape-is) long head (w .headed);
+    size = size;
+    some = some;
+    few = few;
+    right = right;
+    forms = forms;
+    chained = frees-chained (tableBytes c′ s) xs frees;
+    root = root;
+    parts = rw (room-chain c′ s free (p .room) (omega (arith, p .sum))) p;
+  }

@@ -81,8 +81,9 @@ module _ (t t′ : List ℕ) (k : ℕ) (r : Redescribed t t′ k) where
 
   live-same : (j : ℕ) → j < slots t → live t′ j ≡ live t j
   live-same j l = elim (ℕ-discrete j k) [
-      yes e ↦ rw e (is-true (live t′ k) (is-live t′ k .back (r .alive)) ∙ sym (is-true (live t k) (is-live t k .back (r .lived))))
-    | no n ↦ unfold live dead in ap (λ (d : Desc). not (eqb (d .top) end8)) (r .others j l n) ]
+    | yes e ↦ rw e (is-true (live t′ k) (is-live t′ k .back (r .alive)) ∙ sym (is-true (live t k) (is-live t k .back (r .lived))))
+    | no n ↦ unfold live dead in ap (λ (d : Desc). not (eqb (d .top) end8)) (r .others j l n)
+  ]
 
   pub lives-same : lives t′ ≡ lives t
   unfolding lives
@@ -107,13 +108,14 @@ module _ (c c′ : List ℕ) (s : Shape) (k : ℕ) (w : Core c s) (lk : In k (li
       let t : table c′ s ≡ table c s = table-agree c c′ s (core-good c s w) head in
       let range = lives-in (tableBytes c s) k lk in
       core-of c s w c′ (descChain (tableBytes c s)) free long (λ i l n m. head i l n)
-          (ap (λ (d : Desc). d .size) t ∙ w .size ∙ sym (ap offset sl)) (rw sl (w .some)) (rw sl (w .few)) (rw t (w .right))
-          (λ j l. forms j (rw sl at l))
-          (rw sl (frees-keep (tableBytes c s) (tableBytes c′ s) (slotsOf c s) k (range .0) (r .others) (descChain (tableBytes c s)) (core-frees c s w) (r .first) (r .lived) (r .alive)))
-          root (rw owners-same p)
+      (ap (λ (d : Desc). d .size) t ∙ w .size ∙ sym (ap offset sl)) (rw sl (w .some)) (rw sl (w .few)) (rw t (w .right))
+      (λ j l. forms j (rw sl at l))
+      (rw sl (frees-keep (tableBytes c s) (tableBytes c′ s) (slotsOf c s) k (range .0) (r .others) (descChain (tableBytes c s)) (core-frees c s w) (r .first) (r .lived) (r .alive)))
+      root (rw owners-same p)
     where
       forms : (j : ℕ) → j < slotsOf c s → Form s (descOf (tableBytes c′ s) j)
       forms j l = elim (ℕ-discrete j k) [ yes e ↦ rw e (unfold stream in form) | no n ↦ rw (r .others j l n) (unfold stream in w .forms j l) ]
+
       root : descOf (tableBytes c′ s) 0 .top ≢ end8
       root = elim (ℕ-discrete 0 k) [ yes e ↦ subst (λ (x : ℕ). descOf (tableBytes c′ s) x .top ≢ end8) (sym e) (r .alive) | no n ↦ rw (r .others 0 (w .some) n) (unfold stream in w .root) ]
 
@@ -124,14 +126,19 @@ module _ (c : List ℕ) (s : Shape) (w : Core c s) (k : ℕ) (lk : In k (livesOf
     (right : o .d ≡ dataFor s (o .size)) (none : o .d ≡ 0 → o .top ≡ 0) where
   abbrev g : Good s
   g = core-good c s w
+
   abbrev ks : List ℕ
   ks = owners c s
+
   abbrev own₁ : ℕ → Own
   own₁ = moved (own c s) k o
+
   abbrev fs : List ℕ
   fs = fields s (o .size) (o .top) (o .d)
+
   abbrev c₂ : List ℕ
   c₂ = descSet c₁ s k (o .size) (o .top) (o .d)
+
   abbrev tb : List ℕ
   tb = tableBytes c s
 
@@ -151,9 +158,10 @@ module _ (c : List ℕ) (s : Shape) (w : Core c s) (k : ℕ) (lk : In k (livesOf
   top-low : o .top < s .count
   unfolding node
   top-low = elim (ℕ-discrete (o .d) 0) [
-      yes e ↦ omega (arith, none e, count-some c s w)
+    | yes e ↦ omega (arith, none e, count-some c s w)
     | no n ↦ (let b : Skeleton c₁ s (o .top) (tall s (o .d)) (o .d) free = rw (moved-same (own c s) k o) at (st .bones) in
-        b .low 0 (tall s (o .d)) 0 (omega arith) (omega (arith, one-top (fan s) (two s g) (o .d) (omega arith)))) ]
+        b .low 0 (tall s (o .d)) 0 (omega arith) (omega (arith, one-top (fan s) (two s g) (o .d) (omega arith))))
+  ]
 
   range : k < slots tb
   range = lives-in tb k lk .0
@@ -197,8 +205,9 @@ module _ (c : List ℕ) (s : Shape) (w : Core c s) (k : ℕ) (lk : In k (livesOf
   other-desc : (j : ℕ) → j ≢ k → stream c₂ s j ≡ stream c s j
   unfolding stream descOf
   other-desc j n = rw (laid₂ .bytes-is) (desc-away tb (offset k) fs (offset j) (elim (decLt j k) [
-      yes a ↦ inl (omega arith)
-    | no a ↦ inr (omega (arith, length-fields s (o .size) (o .top) (o .d))) ]))
+    | yes a ↦ inl (omega arith)
+    | no a ↦ inr (omega (arith, length-fields s (o .size) (o .top) (o .d)))
+  ]))
 
   data-is : o .d * s .size / s .size ≡ o .d
   data-is = div-is {r = 0} (omega arith) (omega (arith, g .wide))
@@ -211,24 +220,27 @@ module _ (c : List ℕ) (s : Shape) (w : Core c s) (k : ℕ) (lk : In k (livesOf
 
   form₂ : Form s (stream c₂ s k)
   form₂ = rw new-desc (record {
-      alive = λ n. record { flags = unfold stream in w .forms k range .alive (lives-in tb k lk .1) .flags; reserved = ap (λ (d : ℕ). d * s .size) right; fits = rw data-is fits };
-      empty = λ n e. none (sym data-is ∙ e);
-      free = λ e. absurd (omega (arith, top-low, count-few c s w)) })
+    alive = λ n. record { flags = unfold stream in w .forms k range .alive (lives-in tb k lk .1) .flags; reserved = ap (λ (d : ℕ). d * s .size) right; fits = rw data-is fits };
+    empty = λ n e. none (sym data-is ∙ e);
+    free = λ e. absurd (omega (arith, top-low, count-few c s w));
+  })
 
   redescribed : Redescribed tb (tableBytes c₂ s) k
   unfolding stream
   redescribed = record {
-      long = rw (laid₂ .bytes-is) (length-over tb (offset k) fs);
-      first = rw (laid₂ .bytes-is) (num-over 8 tb (offset k) fs 0 (omega arith));
-      others = λ j l n. other-desc j n;
-      lived = lives-in tb k lk .1;
-      alive = alive₂ }
+    long = rw (laid₂ .bytes-is) (length-over tb (offset k) fs);
+    first = rw (laid₂ .bytes-is) (num-over 8 tb (offset k) fs 0 (omega arith));
+    others = λ j l n. other-desc j n;
+    lived = lives-in tb k lk .1;
+    alive = alive₂;
+  }
 
   own₂ : (j : ℕ) → In j ks → own c₂ s j ≡ own₁ j
   own₂ zero i = ap (ownOf s) table₂
   own₂ (suc j) i = elim (ℕ-discrete j k) [
-      yes e ↦ rw e (own-new ∙ sym (moved-same (own c s) k o))
-    | no n ↦ ap (ownOf s) (other-desc j n) ∙ sym (moved-other (own c s) k o (suc j) (omega arith)) ]
+    | yes e ↦ rw e (own-new ∙ sym (moved-same (own c s) k o))
+    | no n ↦ ap (ownOf s) (other-desc j n) ∙ sym (moved-other (own c s) k o (suc j) (omega arith))
+  ]
 
   parts₂ : Parts c₂ s ks (own c₂ s) free
   parts₂ = parts-own c₂ s ks own₁ (own c₂ s) free own₂ (laid₂ .parts)
@@ -238,7 +250,7 @@ module _ (c : List ℕ) (s : Shape) (w : Core c s) (k : ℕ) (lk : In k (livesOf
   kept₂ j i n =
       let a = kept₁ (suc j) (owner-stream c s w j i) (omega arith) in
       let b : Kept s c₁ c₂ (own c s (suc j) .top) (own c s (suc j) .d) (own c s (suc j) .size) =
-          rw (moved-other (own c s) k o (suc j) (omega arith)) at (laid₂ .kept j (owner-stream c s w j i)) in
+      rw (moved-other (own c s) k o (suc j) (omega arith)) at (laid₂ .kept j (owner-stream c s w j i)) in
       record { blocks = b .blocks ∙ a .blocks; bytes = b .bytes ∙ a .bytes }
 
   -- and stream k, from c₁ to c₂
@@ -255,48 +267,51 @@ module _ (c : List ℕ) (s : Shape) (w : Core c s) (k : ℕ) (lk : In k (livesOf
   unfolding streamBlocks descSet
   rest₂ i a b m d =
       in-table-else s g c₁ ks own₁ free p₁ (owner-table c s w) (ap (ownOf s) (sym table₁)) (offset k) fs (rw table₁ room-for) i
-          (λ n l e. d n (omega (arith, length-fields s (o .size) (o .top) (o .d))) (e ∙ spots₁ (offset k + n) (omega (arith, room-for))))
+      (λ n l e. d n (omega (arith, length-fields s (o .size) (o .top) (o .d))) (e ∙ spots₁ (offset k + n) (omega (arith, room-for))))
       ∙ st .rest-same i a b m
 
   pub redescribe : Edit c c₂ s k (text c₁ s o) xs free
   unfolding streamBytes streamBlocks tableBlocks
   redescribe = record {
-      core = core-again c c₂ s k w lk (laid₂ .long ∙ st .long) head₂ redescribed form₂ free parts₂;
-      mine = ap (text c₂ s) own-new ∙ kept-mine .bytes;
-      chain-is = chain-again c c₂ s k w lk (laid₂ .long ∙ st .long) head₂ redescribed form₂ free parts₂;
-      first-is = redescribed .first;
-      slots-is = slots-same tb (tableBytes c₂ s) k redescribed;
-      lives-is = lives-same tb (tableBytes c₂ s) k redescribed;
-      blocks-of = λ j i n. ap (λ (t : Desc). blocks c₂ s (ownOf s t)) (other-desc j n) ∙ kept₂ j i n .blocks;
-      bytes-of = λ j i n. ap (λ (t : Desc). text c₂ s (ownOf s t)) (other-desc j n) ∙ kept₂ j i n .bytes;
-      table-of = laid₂ .blocks-is ∙ ap (λ (t : Desc). blocks c₁ s (ownOf s t)) table₁ ∙ kept₁ 0 (owner-table c s w) (omega arith) .blocks;
-      from = from₂;
-      spots = λ q l. laid₂ .spots q (rw table₁ l) ∙ spots₁ q l;
-      long = laid₂ .long ∙ st .long;
-      rest-same = rest₂ }
+    core = core-again c c₂ s k w lk (laid₂ .long ∙ st .long) head₂ redescribed form₂ free parts₂;
+    mine = ap (text c₂ s) own-new ∙ kept-mine .bytes;
+    chain-is = chain-again c c₂ s k w lk (laid₂ .long ∙ st .long) head₂ redescribed form₂ free parts₂;
+    first-is = redescribed .first;
+    slots-is = slots-same tb (tableBytes c₂ s) k redescribed;
+    lives-is = lives-same tb (tableBytes c₂ s) k redescribed;
+    blocks-of = λ j i n. ap (λ (t : Desc). blocks c₂ s (ownOf s t)) (other-desc j n) ∙ kept₂ j i n .blocks;
+    bytes-of = λ j i n. ap (λ (t : Desc). text c₂ s (ownOf s t)) (other-desc j n) ∙ kept₂ j i n .bytes;
+    table-of = laid₂ .blocks-is ∙ ap (λ (t : Desc). blocks c₁ s (ownOf s t)) table₁ ∙ kept₁ 0 (owner-table c s w) (omega arith) .blocks;
+    from = from₂;
+    spots = λ q l. laid₂ .spots q (rw table₁ l) ∙ spots₁ q l;
+    long = laid₂ .long ∙ st .long;
+    rest-same = rest₂;
+  }
 
 -- ---- one edit after the other
 
 pub edit-then : (c c₁ c₂ : List ℕ) (s : Shape) (k : ℕ) (t₁ t₂ xs ys f₁ f₂ : List ℕ) → Core c s → In k (livesOf c s) → Edit c c₁ s k t₁ xs f₁ → Edit c₁ c₂ s k t₂ ys f₂ → Edit c c₂ s k t₂ (xs ++ ys) f₂
 edit-then c c₁ c₂ s k t₁ t₂ xs ys f₁ f₂ w lk a b = record {
-    core = b .core;
-    mine = b .mine;
-    chain-is = b .chain-is;
-    first-is = b .first-is ∙ a .first-is;
-    slots-is = b .slots-is ∙ a .slots-is;
-    lives-is = b .lives-is ∙ a .lives-is;
-    blocks-of = λ j i n. b .blocks-of j (rw (a .lives-is) i) n ∙ a .blocks-of j i n;
-    bytes-of = λ j i n. b .bytes-of j (rw (a .lives-is) i) n ∙ a .bytes-of j i n;
-    table-of = b .table-of ∙ a .table-of;
-    from = λ x m. elim (b .from x m) [
-        inl u ↦ elim (a .from x u) [ inl v ↦ inl v | inr v ↦ inr (in-left x xs ys v) ]
-      | inr u ↦ inr (in-right x xs ys u) ];
-    spots = λ q l. b .spots q (omega (arith, size-is)) ∙ a .spots q l;
-    long = b .long ∙ a .long;
-    rest-same = λ i n m m′ d. b .rest-same i n (λ x u. m x (in-right x xs ys u))
-        (λ x u. elim (a .from x u) [ inl v ↦ m′ x v | inr v ↦ m x (in-left x xs ys v) ])
-        (λ t l e. d t l (e ∙ a .spots (offset k + t) (omega (arith, w .size, lives-in (tableBytes c s) k lk .0))))
-      ∙ a .rest-same i n (λ x u. m x (in-left x xs ys u)) m′ d }
+  core = b .core;
+  mine = b .mine;
+  chain-is = b .chain-is;
+  first-is = b .first-is ∙ a .first-is;
+  slots-is = b .slots-is ∙ a .slots-is;
+  lives-is = b .lives-is ∙ a .lives-is;
+  blocks-of = λ j i n. b .blocks-of j (rw (a .lives-is) i) n ∙ a .blocks-of j i n;
+  bytes-of = λ j i n. b .bytes-of j (rw (a .lives-is) i) n ∙ a .bytes-of j i n;
+  table-of = b .table-of ∙ a .table-of;
+  from = λ x m. elim (b .from x m) [
+    | inl u ↦ elim (a .from x u) [ inl v ↦ inl v | inr v ↦ inr (in-left x xs ys v) ]
+    | inr u ↦ inr (in-right x xs ys u)
+  ];
+  spots = λ q l. b .spots q (omega (arith, size-is)) ∙ a .spots q l;
+  long = b .long ∙ a .long;
+  rest-same = λ i n m m′ d. b .rest-same i n (λ x u. m x (in-right x xs ys u))
+      (λ x u. elim (a .from x u) [ inl v ↦ m′ x v | inr v ↦ m x (in-left x xs ys v) ])
+      (λ t l e. d t l (e ∙ a .spots (offset k + t) (omega (arith, w .size, lives-in (tableBytes c s) k lk .0))))
+      ∙ a .rest-same i n (λ x u. m x (in-left x xs ys u)) m′ d;
+}
   where
     size-is : table c₁ s .size ≡ table c s .size
     size-is = a .core .size ∙ ap offset (a .slots-is) ∙ sym (w .size)

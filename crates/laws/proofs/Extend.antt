@@ -44,22 +44,25 @@ module _ (c c′ : List ℕ) (s : Shape) (g : Good s) (long : length c′ ≡ le
 
   pub header-keeps : (top d size : ℕ) → size ≤ d * s .size → Kept s c c′ top d size
   header-keeps top d size fits = record {
-      blocks = frame-pyramid s (two s g) c c′ top d (λ b i. all-same b);
-      bytes = frame-contents s (two s g) c c′ top d size fits (λ b i. all-same b) }
+    blocks = frame-pyramid s (two s g) c c′ top d (λ b i. all-same b);
+    bytes = frame-contents s (two s g) c c′ top d size fits (λ b i. all-same b);
+  }
 
   pub header-parts : (ks : List ℕ) (w : ℕ → Own) (free : List ℕ) → Parts c s ks w free → Parts c′ s ks w free
   header-parts ks w free p = record {
-      room = record {
-          long = rw long (p .room .long);
-          links = rw (num-agree 8 c′ c (s .first) (λ i a b. same i (omega (arith, g .field)))) (links-same (next c s) (next c′ s) (firstFree c s) free (p .room .links) (λ x i. same-next s g c c′ x (all-same x)));
-          low = p .room .low;
-          apart = p .room .apart };
-      fits = p .fits;
-      bones = λ k i. frame-skeleton s (two s g) c c′ (w k .top) (w k .d) free free (λ b m. all-same b) (p .bones k i)
-          (skeleton-out s (two s g) c (w k .top) (w k .d) free (p .bones k i));
-      apart = λ k k′ i i′ n b m m′. p .apart k k′ i i′ n b (rw (header-keeps (w k .top) (w k .d) (w k .size) (p .fits k i) .blocks) at m) (rw (header-keeps (w k′ .top) (w k′ .d) (w k′ .size) (p .fits k′ i′) .blocks) at m′);
-      once = p .once;
-      sum = p .sum }
+    room = record {
+      long = rw long (p .room .long);
+      links = rw (num-agree 8 c′ c (s .first) (λ i a b. same i (omega (arith, g .field)))) (links-same (next c s) (next c′ s) (firstFree c s) free (p .room .links) (λ x i. same-next s g c c′ x (all-same x)));
+      low = p .room .low;
+      apart = p .room .apart;
+    };
+    fits = p .fits;
+    bones = λ k i. frame-skeleton s (two s g) c c′ (w k .top) (w k .d) free free (λ b m. all-same b) (p .bones k i)
+        (skeleton-out s (two s g) c (w k .top) (w k .d) free (p .bones k i));
+    apart = λ k k′ i i′ n b m m′. p .apart k k′ i i′ n b (rw (header-keeps (w k .top) (w k .d) (w k .size) (p .fits k i) .blocks) at m) (rw (header-keeps (w k′ .top) (w k′ .d) (w k′ .size) (p .fits k′ i′) .blocks) at m′);
+    once = p .once;
+    sum = p .sum;
+  }
 
 -- ---- the table grows, its descriptor is set, and 25 zeros are laid
 
@@ -67,34 +70,49 @@ module _ (c : List ℕ) (s : Shape) (w : Core c s) (none : descChain (tableBytes
     (enough : P (fan s) (dataAt s (table c s) (table c s .size + 25)) ≤ P (fan s) (dataOf s (table c s)) + length (chain c s)) where
   abbrev n : ℕ
   n = slotsOf c s
+
   abbrev size : ℕ
   size = table c s .size + 25
+
   abbrev d : ℕ
   d = dataOf s (table c s)
+
   abbrev D : ℕ
   D = dataAt s (table c s) size
+
   abbrev gr : Grown
   gr = grown c s (table c s .top) d (D - d)
+
   abbrev o : Own
   o = record { top = gr .top; d = D; size = size }
+
   abbrev many : ℕ
   many = P (fan s) D - P (fan s) d
+
   abbrev xs : List ℕ
   xs = take many (chain c s)
+
   abbrev rest : List ℕ
   rest = drop many (chain c s)
+
   abbrev ks : List ℕ
   ks = owners c s
+
   abbrev own₁ : ℕ → Own
   own₁ = retabled (own c s) o
+
   abbrev g : Good s
   g = core-good c s w
+
   abbrev ca : List ℕ
   ca = gr .card
+
   abbrev cb : List ℕ
   cb = tableSet ca s size (gr .top) D
+
   abbrev c₁ : List ℕ
   c₁ = inTable (tableLengthened c s) s (offset n) (replicate 25 0)
+
   abbrev tb : List ℕ
   tb = tableBytes c s
 
@@ -133,8 +151,9 @@ module _ (c : List ℕ) (s : Shape) (w : Core c s) (none : descChain (tableBytes
   top-low : gr .top < s .count
   unfolding node
   top-low = elim (ℕ-discrete D 0) [
-      yes e ↦ absurd (omega (arith, rw e at holds))
-    | no u ↦ lg .bones .low 0 (tall s D) 0 (omega arith) (omega (arith, one-top (fan s) (two s g) D (omega arith))) ]
+    | yes e ↦ absurd (omega (arith, rw e at holds))
+    | no u ↦ lg .bones .low 0 (tall s D) 0 (omega arith) (omega (arith, one-top (fan s) (two s g) D (omega arith)))
+  ]
 
   cb-same : (i : ℕ) → NotTable s i → getD cb i 0 ≡ getD ca i 0
   unfolding tableSet
@@ -158,7 +177,7 @@ module _ (c : List ℕ) (s : Shape) (w : Core c s) (none : descChain (tableBytes
   unfolding tableSet table
   table-b = desc-put s ca (s .table) size (gr .top) D long-a (omega (arith, small-reserved c s w D fits, holds)) (omega (arith, top-low, count-few c s w)) (small-reserved c s w D fits)
       ∙ ap {B = Desc} (λ (f : ℕ). record { size = size; top = gr .top; reserved = D * s .size; flags = f })
-        (ap (λ (t : Desc). t .flags) (desc-agree ca c (s .table) (λ i a b. head-a i (omega (arith, g .desc, g .header)) (omega (arith, g .field)))) ∙ w .right .flags)
+      (ap (λ (t : Desc). t .flags) (desc-agree ca c (s .table) (λ i a b. head-a i (omega (arith, g .desc, g .header)) (omega (arith, g .field)))) ∙ w .right .flags)
 
   data-is : D * s .size / s .size ≡ D
   data-is = div-is {r = 0} (omega arith) (omega (arith, g .wide))
@@ -190,8 +209,8 @@ module _ (c : List ℕ) (s : Shape) (w : Core c s) (none : descChain (tableBytes
       let m : q % s .size < s .size = mod-lt q (omega (arith, g .wide)) in
       let e : text cb s (ownOf s (table cb s)) ≡ text ca s o = ap (text cb s) own-b ∙ header-keeps ca cb s g cb-long cb-same (gr .top) D size holds .bytes in
       rw e (contents-at ca s (gr .top) D size q (omega arith)
-        ∙ rw (lg .stay (q / s .size) j) (lg .same (q / s .size) j (spot c s (table c s .top) (tall s d) q) (omega arith) (omega arith))
-        ∙ sym (contents-at c s (table c s .top) d (table c s .size) q l))
+      ∙ rw (lg .stay (q / s .size) j) (lg .same (q / s .size) j (spot c s (table c s .top) (tall s d) q) (omega arith) (omega arith))
+      ∙ sym (contents-at c s (table c s .top) d (table c s .size) q l))
 
   others : (k : ℕ) → k < n → descOf tb₂ k ≡ descOf tb k
   unfolding descOf
@@ -222,8 +241,10 @@ module _ (c : List ℕ) (s : Shape) (w : Core c s) (none : descChain (tableBytes
         once = tt;
         gone = λ x i. absurd i;
         all = λ k l e. elim (ℕ-discrete k n) [
-            yes u ↦ absurd (alive (rw u at e))
-          | no u ↦ (let l′ : k < n = omega arith in f .all k l′ (sym (ap (λ (t : Desc). t .top) (others k l′)) ∙ e)) ] }
+          | yes u ↦ absurd (alive (rw u at e))
+          | no u ↦ (let l′ : k < n = omega arith in f .all k l′ (sym (ap (λ (t : Desc). t .top) (others k l′)) ∙ e))
+        ];
+      }
     where
       alive : descOf tb₂ n .top ≢ end8
       alive e = let z = ap (λ (t : Desc). t .top) mine in omega arith
@@ -248,22 +269,23 @@ module _ (c : List ℕ) (s : Shape) (w : Core c s) (none : descChain (tableBytes
   added : Added c c₁ s n xs rest [] o
   unfolding stream
   added = record {
-      more = omega (arith, extended-slots);
-      inside = λ k l m. omega (arith, extended-slots);
-      range = omega (arith, extended-slots);
-      fresh = λ i. (let r = lives-in tb n i in omega (arith, r .0));
-      others = λ k l m. rw (sc .bytes-is) (others k l);
-      mine = rw (sc .bytes-is) mine;
-      size = omega (arith, size₁, extended-slots, w .size);
-      few = omega (arith, extended-slots);
-      right = rw table₁ (record { flags = refl; reserved = ap (λ (x : ℕ). x * s .size) wanted; fits = rw data-is fits });
-      frees = rw (extended-slots, sc .bytes-is) frees₁;
-      owner = ap (ownOf s) (sc .table-is) ∙ own-b;
-      parts = sc .parts;
-      kept = kept₁;
-      from = λ b m. from-b b (rw (sc .blocks-is) at m);
-      long = sc .long ∙ cb-long ∙ sa .long;
-      rest-same = rest₁ }
+    more = omega (arith, extended-slots);
+    inside = λ k l m. omega (arith, extended-slots);
+    range = omega (arith, extended-slots);
+    fresh = λ i. (let r = lives-in tb n i in omega (arith, r .0));
+    others = λ k l m. rw (sc .bytes-is) (others k l);
+    mine = rw (sc .bytes-is) mine;
+    size = omega (arith, size₁, extended-slots, w .size);
+    few = omega (arith, extended-slots);
+    right = rw table₁ (record { flags = refl; reserved = ap (λ (x : ℕ). x * s .size) wanted; fits = rw data-is fits });
+    frees = rw (extended-slots, sc .bytes-is) frees₁;
+    owner = ap (ownOf s) (sc .table-is) ∙ own-b;
+    parts = sc .parts;
+    kept = kept₁;
+    from = λ b m. from-b b (rw (sc .blocks-is) at m);
+    long = sc .long ∙ cb-long ∙ sa .long;
+    rest-same = rest₁;
+  }
 
   pub extended : Described c c₁ s n xs rest
   extended = described c c₁ s w n xs rest [] o added

@@ -41,7 +41,6 @@ module _ (s : Shape) (two : 2 ≤ fan s) where
     same-node (suc e) k j p q =
         rw (same-node e (suc k) (j / fan s) (omega arith) (level-holds (fan s) two k d j q)) (same e k j (omega arith) q)
 
-
   -- the blocks of a pyramid, by their cells: e levels below the top, k above the data
   pub in-pyramid : (c : List ℕ) (top d e k j : ℕ) → e + k ≡ height (fan s) d → j < level (fan s) k d → In (node c s top e j) (pyramid c s top d)
   unfolding surplus
@@ -49,7 +48,7 @@ module _ (s : Shape) (two : 2 ≤ fan s) where
       let h = height (fan s) d in
       let e′ : h - k ≡ e = omega arith in
       rw (← e′) (in-map (at c s top h) (record { k = k; j = j }) (cells (fan s) d 0 h)
-          (in-cells (fan s) d 0 h k j (omega arith) (rw (kept-none (fan s) two k) (omega arith)) q))
+      (in-cells (fan s) d 0 h k j (omega arith) (rw (kept-none (fan s) two k) (omega arith)) q))
 
   pub pyramid-in : (c : List ℕ) (top d b : ℕ) → In b (pyramid c s top d) → (e k j : ℕ) × (e + k ≡ height (fan s) d) × (j < level (fan s) k d) × (b ≡ node c s top e j)
   unfolding surplus
@@ -79,7 +78,7 @@ module _ (s : Shape) (two : 2 ≤ fan s) where
     frame-byte p h =
         let m : p % s .size < s .size = mod-lt p (omega arith) in
         rw (frame-node (height (fan s) d) 0 (p / s .size) (omega arith) h)
-            (same-at (height (fan s) d) 0 (p / s .size) (omega arith) h (spot c s top (height (fan s) d) p) (omega arith) (omega arith))
+        (same-at (height (fan s) d) 0 (p / s .size) (omega arith) h (spot c s top (height (fan s) d) p) (omega arith) (omega arith))
 
   -- of the first `size` bytes, where the d data blocks hold so many
   pub frame-contents : (c c′ : List ℕ) (top d size : ℕ) → size ≤ d * s .size → ((b : ℕ) → In b (pyramid c s top d) → SameIn s c c′ b) → contents c′ s top d size ≡ contents c s top d size

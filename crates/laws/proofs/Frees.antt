@@ -27,10 +27,11 @@ pub record Frees (t : List ℕ) (n : ℕ) (xs : List ℕ) : Type 0 where
 pub chained-frees : (t : List ℕ) → Same (descChain t) (frees t) → Frees t (slots t) (descChain t)
 unfolding descChain
 chained-frees t h = record {
-    links = links-walk (slots t + 1) (num 8 t) (firstDesc t) (omega (arith, h .many, frees-few t));
-    once = h .once;
-    gone = λ x i. frees-in t x (h .all x i);
-    all = λ k l e. same-back (descChain t) (frees t) h (offset k) (in-frees t k l e) }
+  links = links-walk (slots t + 1) (num 8 t) (firstDesc t) (omega (arith, h .many, frees-few t));
+  once = h .once;
+  gone = λ x i. frees-in t x (h .all x i);
+  all = λ k l e. same-back (descChain t) (frees t) h (offset k) (in-frees t k l e);
+}
 
 pub frees-chained : (t xs : List ℕ) → Frees t (slots t) xs → Same (descChain t) (frees t)
 unfolding descChain
@@ -61,10 +62,11 @@ module _ (t t′ : List ℕ) (n j : ℕ) (in-range : j < n) (others : (k : ℕ) 
   -- it lived and lives: the chain stays
   pub frees-keep : (xs : List ℕ) → Frees t n xs → firstDesc t′ ≡ firstDesc t → descOf t j .top ≢ end8 → descOf t′ j .top ≢ end8 → Frees t′ n xs
   frees-keep xs f first lived lives = record {
-      links = rw first (links-same (num 8 t) (num 8 t′) (firstDesc t) xs (f .links) (λ x i. let r = f .gone x i in rw (r .3) (link (r .0) (r .1) (other x i (r .0) (r .2)))));
-      once = f .once;
-      gone = λ x i. (let r = f .gone x i in (r .0, r .1, still (r .0) (r .1) (other x i (r .0) (r .2)) (r .2), r .3));
-      all = λ k l e. f .all k l (was k l (λ u. lives (rw u at e)) e) }
+    links = rw first (links-same (num 8 t) (num 8 t′) (firstDesc t) xs (f .links) (λ x i. let r = f .gone x i in rw (r .3) (link (r .0) (r .1) (other x i (r .0) (r .2)))));
+    once = f .once;
+    gone = λ x i. (let r = f .gone x i in (r .0, r .1, still (r .0) (r .1) (other x i (r .0) (r .2)) (r .2), r .3));
+    all = λ k l e. f .all k l (was k l (λ u. lives (rw u at e)) e);
+  }
     where
       other : (x : ℕ) → In x xs → (k : ℕ) → descOf t k .top ≡ end8 → k ≢ j
       other x i k g u = lived (rw u at g)
@@ -72,13 +74,15 @@ module _ (t t′ : List ℕ) (n j : ℕ) (in-range : j < n) (others : (k : ℕ) 
   -- the first one is taken
   pub frees-pop : (xs : List ℕ) → Frees t n (offset j ∷ xs) → firstDesc t′ ≡ num 8 t (offset j) → descOf t′ j .top ≢ end8 → Frees t′ n xs
   frees-pop xs f first alive = record {
-      links = rw first (links-same (num 8 t) (num 8 t′) (num 8 t (offset j)) xs (f .links .2) (λ x i. let r = f .gone x (inr i) in rw (r .3) (link (r .0) (r .1) (other x i (r .0) (r .3)))));
-      once = f .once .1;
-      gone = λ x i. (let r = f .gone x (inr i) in (r .0, r .1, still (r .0) (r .1) (other x i (r .0) (r .3)) (r .2), r .3));
-      all = λ k l g. (let m : k ≢ j = λ e. alive (rw e at g) in later k m (f .all k l (was k l m g))) }
+    links = rw first (links-same (num 8 t) (num 8 t′) (num 8 t (offset j)) xs (f .links .2) (λ x i. let r = f .gone x (inr i) in rw (r .3) (link (r .0) (r .1) (other x i (r .0) (r .3)))));
+    once = f .once .1;
+    gone = λ x i. (let r = f .gone x (inr i) in (r .0, r .1, still (r .0) (r .1) (other x i (r .0) (r .3)) (r .2), r .3));
+    all = λ k l g. (let m : k ≢ j = λ e. alive (rw e at g) in later k m (f .all k l (was k l m g)));
+  }
     where
       other : (x : ℕ) → In x xs → (k : ℕ) → x ≡ offset k → k ≢ j
       other x i k e u = f .once .0 (let z : offset j ≡ x = omega arith in rw z i)
+
       later : (k : ℕ) → k ≢ j → In (offset k) (offset j ∷ xs) → In (offset k) xs
       later k m (inl e) = absurd (omega arith)
       later k m (inr i) = i
@@ -87,10 +91,11 @@ module _ (t t′ : List ℕ) (n j : ℕ) (in-range : j < n) (others : (k : ℕ) 
   pub frees-push : (xs : List ℕ) → Frees t n xs → descOf t j .top ≢ end8 → firstDesc t′ ≡ offset j → offset j ≢ end8 → num 8 t′ (offset j) ≡ firstDesc t → descOf t′ j .top ≡ end8
       → Frees t′ n (offset j ∷ xs)
   frees-push xs f lived first small next gone = record {
-      links = (first, (λ e. small (sym first ∙ e)), rw next (links-same (num 8 t) (num 8 t′) (firstDesc t) xs (f .links) (λ x i. let r = f .gone x i in rw (r .3) (link (r .0) (r .1) (λ u. lived (rw u at (r .2)))))));
-      once = ((λ i. let r = f .gone (offset j) i in lived (let z : r .0 ≡ j = omega (arith, r .3) in rw z at (r .2))), f .once);
-      gone = gones;
-      all = λ k l g. elim (ℕ-discrete k j) [ yes e ↦ inl (rw e) | no m ↦ inr (f .all k l (was k l m g)) ] }
+    links = (first, (λ e. small (sym first ∙ e)), rw next (links-same (num 8 t) (num 8 t′) (firstDesc t) xs (f .links) (λ x i. let r = f .gone x i in rw (r .3) (link (r .0) (r .1) (λ u. lived (rw u at (r .2)))))));
+    once = ((λ i. let r = f .gone (offset j) i in lived (let z : r .0 ≡ j = omega (arith, r .3) in rw z at (r .2))), f .once);
+    gone = gones;
+    all = λ k l g. elim (ℕ-discrete k j) [ yes e ↦ inl (rw e) | no m ↦ inr (f .all k l (was k l m g)) ];
+  }
     where
       gones : (x : ℕ) → In x (offset j ∷ xs) → (k : ℕ) × (k < n) × (descOf t′ k .top ≡ end8) × (x ≡ offset k)
       gones x (inl e) = (j, in-range, gone, e)

@@ -67,10 +67,11 @@ module _ (s : Shape) (good : Good s) where
 
     freed-loose : Loose (freed c s b head) s b (b ∷ xs)
     freed-loose = record {
-        long = rw length-freed (l .long);
-        links = (refl, omega (arith, good .few), rw freed-next (links-same (next c s) (next (freed c s b head) s) head xs (l .links) (λ y i. same-next s good c (freed c s b head) y (freed-same y (λ e. out (rw (← e) i))))));
-        low = below;
-        apart = (out, l .apart) }
+      long = rw length-freed (l .long);
+      links = (refl, omega (arith, good .few), rw freed-next (links-same (next c s) (next (freed c s b head) s) head xs (l .links) (λ y i. same-next s good c (freed c s b head) y (freed-same y (λ e. out (rw (← e) i))))));
+      low = below;
+      apart = (out, l .apart);
+    }
       where
         below : (x : ℕ) → In x (b ∷ xs) → x < s .count
         below x (inl e) = rw e low
@@ -85,7 +86,8 @@ module _ (s : Shape) (good : Good s) where
         long = rw length-put (l .long);
         links = rw f (links-same (next c s) (next (put 8 c (s .first) head) s) head xs (l .links) (λ y i. same-next s good c _ y (λ j p q. put-out 8 c (s .first) head j (omega (arith, good .header)))));
         low = l .low;
-        apart = l .apart }
+        apart = l .apart;
+      }
   linked-room (b ∷ bs) c head xs l low dis out =
       linked-room bs _ b (b ∷ xs) (freed-loose c head b xs l (low b (inl refl)) (out b (inl refl))) (λ x i. low x (inr i)) (dis .1) apart
     where
@@ -128,15 +130,17 @@ module _ (bs : List ℕ) where
   unfolding falling
   falling-in zero b i = absurd i
   falling-in (suc n) b i = elim (pick-in (holds n bs) b n (falling n bs) i) [
-      inl a ↦ (omega (arith, a .1), rw (a .1) (holds-read n bs (a .0)))
-    | inr k ↦ (let r = falling-in n b k in (omega arith, r .1)) ]
+    | inl a ↦ (omega (arith, a .1), rw (a .1) (holds-read n bs (a .0)))
+    | inr k ↦ (let r = falling-in n b k in (omega arith, r .1))
+  ]
 
   pub in-falling : (n b : ℕ) → b < n → In b bs → In b (falling n bs)
   unfolding falling
   in-falling zero b h i = absurd (omega arith)
   in-falling (suc n) b h i = in-pick (holds n bs) b n (falling n bs) (elim (ℕ-discrete b n) [
-      yes e ↦ inl (rw (← e) (holds-in b bs i), e)
-    | no m ↦ inr (in-falling n b (omega arith) i) ])
+    | yes e ↦ inl (rw (← e) (holds-in b bs i), e)
+    | no m ↦ inr (in-falling n b (omega arith) i)
+  ])
 
   pub falling-distinct : (n : ℕ) → Distinct (falling n bs)
   unfolding falling
@@ -156,8 +160,9 @@ module _ (bs : List ℕ) where
   unfolding rising
   rising-in zero m b i = absurd i
   rising-in (suc n) m b i = elim (pick-in (holds m bs) b m (rising n (suc m) bs) i) [
-      inl a ↦ rw (a .1) (holds-read m bs (a .0))
-    | inr k ↦ rising-in n (suc m) b k ]
+    | inl a ↦ rw (a .1) (holds-read m bs (a .0))
+    | inr k ↦ rising-in n (suc m) b k
+  ]
 
   rising-all : (n : ℕ) (xs : List ℕ) → onto (falling n bs) xs ≡ rising n 0 bs ++ xs
   unfolding rising
@@ -169,7 +174,7 @@ module _ (s : Shape) (good : Good s) (c : List ℕ) (free bs : List ℕ) (room :
   unfolding givenBack
   given-room = rw (← rising-all bs (s .count) free)
       (linked-room s good (falling (s .count) bs) c (firstFree c s) free (record { long = room .long; links = room .links; low = room .low; apart = room .apart })
-          (λ b i. falling-in bs (s .count) b i .0) (falling-distinct bs (s .count)) (λ b i. out b (falling-in bs (s .count) b i .1)))
+      (λ b i. falling-in bs (s .count) b i .0) (falling-distinct bs (s .count)) (λ b i. out b (falling-in bs (s .count) b i .1)))
 
   -- only the first 4 bytes of each, and the field, change
   pub given-else : (i : ℕ) → NotField s i → NotLink s bs i → getD (givenBack c s bs) i 0 ≡ getD c i 0

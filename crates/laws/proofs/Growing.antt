@@ -32,11 +32,12 @@ module _ (s : Shape) (good : Good s) where
   first-grew : (c : List ℕ) (top x : ℕ) (rest : List ℕ) → Room c s (x ∷ rest) → Grew s c top 0 (x ∷ []) rest (record { card = taken c s; top = firstFree c s })
   unfolding node above
   first-grew c top x rest r = record {
-      room = taken-room s good c x rest r;
-      old = λ e e′ k j p q l. absurd (omega (arith, level-none (fan s) (two s good) k));
-      new = λ e k i p q. (let a : k ≡ 0 = omega arith in let b : i ≡ 0 = omega arith in let t : e ≡ 0 = omega (arith, flat) in rw (a, b, t) (r .links .0));
-      rest-same = λ i a b n. taken-else s good c x rest r i a (b x (inl refl));
-      zeros = λ i a. taken-zero s good c x rest r i (rw (flat, r .links .0) at a) }
+    room = taken-room s good c x rest r;
+    old = λ e e′ k j p q l. absurd (omega (arith, level-none (fan s) (two s good) k));
+    new = λ e k i p q. (let a : k ≡ 0 = omega arith in let b : i ≡ 0 = omega arith in let t : e ≡ 0 = omega (arith, flat) in rw (a, b, t) (r .links .0));
+    rest-same = λ i a b n. taken-else s good c x rest r i a (b x (inl refl));
+    zeros = λ i a. taken-zero s good c x rest r i (rw (flat, r .links .0) at a);
+  }
     where
       flat : height (fan s) 1 ≡ 0
       flat = height-low (fan s) (two s good) 1 (omega arith)
@@ -55,7 +56,8 @@ module _ (s : Shape) (good : Good s) where
         old = λ e₁ e₂ k j u v l. (let t : e₁ ≡ e₂ = omega arith in rw t (rooted-old s good c top h d xs rest r sk′ m some first single e₂ k j v l));
         new = rooted-new s good c top h d xs rest r sk′ m some first single;
         rest-same = λ i a b n. rooted-rest s good c top h d xs rest r sk′ m some first single i a b (λ e₁ k j o u. n e₁ k j o (omega arith));
-        zeros = rooted-zero s good c top h d xs rest r sk′ m some first single }
+        zeros = rooted-zero s good c top h d xs rest r sk′ m some first single;
+      }
 
   rises-grew : (c : List ℕ) (top d x : ℕ) (xs rest : List ℕ) → 1 ≤ d → Room c s (x ∷ xs ++ rest) → Skeleton c s top (height (fan s) d) d (x ∷ xs ++ rest)
       → height (fan s) (suc d) ≡ suc (height (fan s) d) → length xs ≡ missing (fan s) (height (fan s) (suc d)) d → length xs ≡ height (fan s) (suc d)
@@ -75,14 +77,17 @@ module _ (s : Shape) (good : Good s) where
         old = λ e₁ e₂ k j u v l. (let w : e₂ ≡ suc e₁ = omega arith in
             rw w (rooted-old s good c₁ x h d xs rest r₁ sk₁ m some first single (suc e₁) k j (omega arith) l ∙ crowned-old s good c top (height (fan s) d) d x (xs ++ rest) r sk one e₁ k j u l));
         new = λ e₁ k. elim [
-            zero ↦ (λ u v. let w : e₁ ≡ 0 = omega arith in rw w)
-          | suc i ↦ (λ u v. rooted-new s good c₁ x h d xs rest r₁ sk₁ m some first single e₁ k i u (omega arith)) ];
+          | zero ↦ (λ u v. let w : e₁ ≡ 0 = omega arith in rw w)
+          | suc i ↦ (λ u v. rooted-new s good c₁ x h d xs rest r₁ sk₁ m some first single e₁ k i u (omega arith))
+        ];
         rest-same = λ i a b n. rooted-rest s good c₁ x h d xs rest r₁ sk₁ m some first single i a (λ y k. b y (inr k))
             (elim [
-                zero ↦ (λ k j o u l w. b x (inl refl) w)
-              | suc e₁ ↦ (λ k j o u l w. n e₁ k j o (omega arith) l (rw (crowned-old s good c top (height (fan s) d) d x (xs ++ rest) r sk one e₁ k j (omega arith) l) at w)) ])
+              | zero ↦ (λ k j o u l w. b x (inl refl) w)
+              | suc e₁ ↦ (λ k j o u l w. n e₁ k j o (omega arith) l (rw (crowned-old s good c top (height (fan s) d) d x (xs ++ rest) r sk one e₁ k j (omega arith) l) at w))
+            ])
             ∙ crowned-else s good c top (height (fan s) d) d x (xs ++ rest) r sk one i a (b x (inl refl));
-        zeros = rooted-zero s good c₁ x h d xs rest r₁ sk₁ m some first single }
+        zeros = rooted-zero s good c₁ x h d xs rest r₁ sk₁ m some first single;
+      }
 
   rises-one : (c : List ℕ) (top n : ℕ) (xs rest : List ℕ) → Room c s (xs ++ rest) → Skeleton c s top (height (fan s) (suc n)) (suc n) (xs ++ rest)
       → length xs ≡ suc (height (fan s) (suc (suc n))) → height (fan s) (suc (suc n)) ≡ suc (height (fan s) (suc n)) → missing (fan s) (height (fan s) (suc (suc n))) (suc n) ≡ height (fan s) (suc (suc n))
@@ -91,7 +96,7 @@ module _ (s : Shape) (good : Good s) where
   rises-one c top n [] rest r sk l e m = absurd (omega arith)
   rises-one c top n (x ∷ xs) rest r sk l e m =
       rw (leb-yes {a = suc (height (fan s) (suc n))} {b = height (fan s) (suc (suc n))} (omega arith), r .links .0)
-          (rises-grew c top (suc n) x xs rest (omega arith) r sk e (omega arith) (omega arith))
+      (rises-grew c top (suc n) x xs rest (omega arith) r sk e (omega arith) (omega arith))
 
   stays-one : (c : List ℕ) (top n : ℕ) (xs rest : List ℕ) → Room c s (xs ++ rest) → Skeleton c s top (height (fan s) (suc n)) (suc n) (xs ++ rest)
       → length xs ≡ missing (fan s) (height (fan s) (suc (suc n))) (suc n) → height (fan s) (suc (suc n)) ≡ height (fan s) (suc n)
@@ -99,7 +104,7 @@ module _ (s : Shape) (good : Good s) where
   unfolding grownOne raised
   stays-one c top n xs rest r sk l e =
       rw (leb-no {a = suc (height (fan s) (suc n))} {b = height (fan s) (suc (suc n))} (omega arith))
-          (stays-grew c top (suc n) xs rest (omega arith) r sk e l)
+      (stays-grew c top (suc n) xs rest (omega arith) r sk e l)
 
   first-one : (c : List ℕ) (top : ℕ) (xs rest : List ℕ) → Room c s (xs ++ rest) → length xs ≡ 1 → Grew s c top 0 xs rest (grownOne c s top 0)
   unfolding grownOne

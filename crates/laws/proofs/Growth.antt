@@ -63,16 +63,18 @@ module _ (s : Shape) (good : Good s) (c : List ℕ) (top h d : ℕ) (xs rest : L
 
   stem-cell : above (fan s) (length xs) d < level (fan s) (length xs) d
   stem-cell = elim (eq-or-lt-of-le small) [
-      inl e ↦ rw (e, first, single) (omega arith)
-    | inr l ↦ omega (arith, present-level (fan s) (two s good) h (length xs) d (omega arith) l) ]
+    | inl e ↦ rw (e, first, single) (omega arith)
+    | inr l ↦ omega (arith, present-level (fan s) (two s good) h (length xs) d (omega arith) l)
+  ]
 
   ready : Ready c s stem nook (xs ++ rest)
   unfolding stem nook
   ready = record {
-      room = room;
-      low = sk .low (h - length xs) (length xs) (above (fan s) (length xs) d) (omega (arith, small)) stem-cell;
-      fits = mod-lt _ (omega (arith, two s good));
-      out = sk .out (h - length xs) (length xs) (above (fan s) (length xs) d) (omega (arith, small)) stem-cell }
+    room = room;
+    low = sk .low (h - length xs) (length xs) (above (fan s) (length xs) d) (omega (arith, small)) stem-cell;
+    fits = mod-lt _ (omega (arith, two s good));
+    out = sk .out (h - length xs) (length xs) (above (fan s) (length xs) d) (omega (arith, small)) stem-cell;
+  }
 
   pub rooted-room : Room (rooted c s top h d) s rest
   rooted-room = rw rooted-is (hung-room s good xs rest c stem nook ready)
@@ -106,17 +108,17 @@ module _ (s : Shape) (good : Good s) (c : List ℕ) (top h d : ℕ) (xs rest : L
   rooted-old = same-node s (two s good) c (rooted c s top h d) top h d (λ e k j p q.
       let b = node c s top e (j / fan s) in
       num-agree 4 (rooted c s top h d) c (slotPlace s b (j % fan s)) (λ i u v.
-          let a = slot-inside s good b (j % fan s) i (mod-lt j (omega (arith, two s good))) u v in
-          rooted-else i (block-field s good b i a) (unused e k j i p q u v)
-              (beyond s good b xs i (λ n. sk .out e (suc k) (j / fan s) p (level-holds (fan s) (two s good) k d j q) (in-left b xs rest n)) a)))
+      let a = slot-inside s good b (j % fan s) i (mod-lt j (omega (arith, two s good))) u v in
+      rooted-else i (block-field s good b i a) (unused e k j i p q u v)
+      (beyond s good b xs i (λ n. sk .out e (suc k) (j / fan s) p (level-holds (fan s) (two s good) k d j q) (in-left b xs rest n)) a)))
 
   -- the new ones are the blocks taken, in order
   pub rooted-new : (e k i : ℕ) → e + k ≡ h → k + suc i ≡ length xs → node (rooted c s top h d) s top e (above (fan s) k d) ≡ getD xs i 0
   unfolding stem nook
   rooted-new e k i p q =
       hangs-nodes (rooted c s top h d) s top d xs stem nook (h - length xs) (rw rooted-is (hung-hangs s good xs rest c stem nook ready))
-          (sym (rooted-old (h - length xs) (length xs) (above (fan s) (length xs) d) (omega (arith, small)) stem-cell)) refl
-          (λ k l. missing-slot (fan s) (two s good) h k d (omega arith)) e k i (omega (arith, small)) q
+      (sym (rooted-old (h - length xs) (length xs) (above (fan s) (length xs) d) (omega (arith, small)) stem-cell)) refl
+      (λ k l. missing-slot (fan s) (two s good) h k d (omega arith)) e k i (omega (arith, small)) q
 
   pub rooted-blank : (y : ℕ) → In y xs → (i : ℕ) → Inside s y i → NotSlot s y 0 i → getD (rooted c s top h d) i 0 ≡ 0
   rooted-blank y k i a n = rw rooted-is (hung-blank s good xs rest c stem nook ready y k i a n)
@@ -126,4 +128,4 @@ module _ (s : Shape) (good : Good s) (c : List ℕ) (top h d : ℕ) (xs rest : L
   unfolding above
   rooted-zero i a =
       rw rooted-is (hung-end s good xs rest c stem nook ready (length xs - 1) i (omega arith)
-          (rw (rooted-new h 0 (length xs - 1) (omega arith) (omega arith)) at a))
+      (rw (rooted-new h 0 (length xs - 1) (omega arith) (omega arith)) at a))

@@ -59,10 +59,11 @@ module _ (s : Shape) (good : Good s) where
 
     pub hooked-ready : Ready (hooked c s b j) s x 0 xs
     hooked-ready = record {
-        room = rw hooked-is (slotted-room s good (taken c s) xs t-room b j x (r .low) (r .fits) (λ i. r .out (inr i)));
-        low = r .room .low x (inl refl);
-        fits = omega (arith, two);
-        out = r .room .apart .0 }
+      room = rw hooked-is (slotted-room s good (taken c s) xs t-room b j x (r .low) (r .fits) (λ i. r .out (inr i)));
+      low = r .room .low x (inl refl);
+      fits = omega (arith, two);
+      out = r .room .apart .0;
+    }
 
     pub hooked-else : (i : ℕ) → NotField s i → NotSlot s b j i → (Inside s x i → ⊥) → getD (hooked c s b j) i 0 ≡ getD c i 0
     hooked-else i a h n = rw hooked-is (slotted-else s good (taken c s) xs t-room b j x (r .low) (r .fits) i h ∙ taken-else s good c x xs (r .room) i a n)
@@ -105,21 +106,22 @@ module _ (s : Shape) (good : Good s) where
   hung-else (x ∷ xs) rest c b j r i a h n =
       let q = hooked-ready c x (xs ++ rest) b j r in
       rw (hung-step c x (xs ++ rest) b j r (length xs))
-          (hung-else xs rest (hooked c s b j) x 0 q i a (λ u v. n x (inl refl) (slot-inside x 0 i (q .fits) u v)) (λ y k. n y (inr k))
-          ∙ hooked-else c x (xs ++ rest) b j r i a h (n x (inl refl)))
+      (hung-else xs rest (hooked c s b j) x 0 q i a (λ u v. n x (inl refl) (slot-inside x 0 i (q .fits) u v)) (λ y k. n y (inr k))
+      ∙ hooked-else c x (xs ++ rest) b j r i a h (n x (inl refl)))
 
   pub hung-hangs : (xs rest c : List ℕ) (b j : ℕ) → Ready c s b j (xs ++ rest) → Hangs (hung (length xs) c s b j) s b j xs
   unfolding hung
   hung-hangs [] rest c b j r = tt
   hung-hangs (x ∷ xs) rest c b j r =
       let q = hooked-ready c x (xs ++ rest) b j r in
-      rw (hung-step c x (xs ++ rest) b j r (length xs))
-          ( num-agree 4 _ (hooked c s b j) (slotPlace s b j) (λ i u v.
-              let a = slot-inside b j i (r .fits) u v in
-              hung-else xs rest (hooked c s b j) x 0 q i (block-field b i a) (slot-apart x 0 b i (q .fits) a (λ e. r .out (inl e)))
-                (beyond b xs i (λ k. r .out (inr (in-left b xs rest k))) a))
-            ∙ hooked-slot c x (xs ++ rest) b j r
-          , hung-hangs xs rest (hooked c s b j) x 0 q)
+      rw (hung-step c x (xs ++ rest) b j r (length xs)) (
+        num-agree 4 _ (hooked c s b j) (slotPlace s b j) (λ i u v.
+            let a = slot-inside b j i (r .fits) u v in
+            hung-else xs rest (hooked c s b j) x 0 q i (block-field b i a) (slot-apart x 0 b i (q .fits) a (λ e. r .out (inl e)))
+            (beyond b xs i (λ k. r .out (inr (in-left b xs rest k))) a))
+            ∙ hooked-slot c x (xs ++ rest) b j r,
+        hung-hangs xs rest (hooked c s b j) x 0 q,
+      )
 
   -- the new blocks hold zeros, but for slot 0 of each but the last
   pub hung-blank : (xs rest c : List ℕ) (b j : ℕ) → Ready c s b j (xs ++ rest)
@@ -128,8 +130,8 @@ module _ (s : Shape) (good : Good s) where
   hung-blank (x ∷ xs) rest c b j r y (inl e) i a h =
       let q = hooked-ready c x (xs ++ rest) b j r in
       rw (hung-step c x (xs ++ rest) b j r (length xs))
-          (hung-else xs rest (hooked c s b j) x 0 q i (block-field y i a) (rw (← e) h) (beyond x xs i (λ k. q .out (in-left x xs rest k)) (rw (← e) a))
-          ∙ hooked-zero c x (xs ++ rest) b j r i (rw (← e) a))
+      (hung-else xs rest (hooked c s b j) x 0 q i (block-field y i a) (rw (← e) h) (beyond x xs i (λ k. q .out (in-left x xs rest k)) (rw (← e) a))
+      ∙ hooked-zero c x (xs ++ rest) b j r i (rw (← e) a))
   hung-blank (x ∷ xs) rest c b j r y (inr k) i a h =
       rw (hung-step c x (xs ++ rest) b j r (length xs)) (hung-blank xs rest (hooked c s b j) x 0 (hooked-ready c x (xs ++ rest) b j r) y k i a h)
 

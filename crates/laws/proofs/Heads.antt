@@ -48,10 +48,11 @@ module _ (c c′ : List ℕ) (s : Shape) (sh : shapeOf c ≡ s) (long : length c
 
   pub headed-same : Headed c → Headed c′
   headed-same h = record {
-      long = rw long (h .long);
-      values = rw fixed-same (h .values);
-      least = rw shift (h .least);
-      most = rw shift (h .most);
-      whole = rw (shift, long) (h .whole);
-      some = rw (shift, long) (h .some);
-      few = rw (shift, long) (h .few) }
+    long = rw long (h .long);
+    values = rw fixed-same (h .values);
+    least = rw shift (h .least);
+    most = rw shift (h .most);
+    whole = rw (shift, long) (h .whole);
+    some = rw (shift, long) (h .some);
+    few = rw (shift, long) (h .few);
+  }

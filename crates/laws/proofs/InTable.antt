@@ -59,7 +59,8 @@ module _ (s : Shape) (g : Good s) where
           spots = λ q l. ap (λ (d : Desc). spot c′ s (d .top) (tall s (dataOf s d)) q) t′ ∙ (unfold laid in spot-stays s g c (t .top) (dataOf s t) (t .size) at vs free (p .room) sk within fits q l);
           kept = λ j k. step-keeps s g c c′ ks w w 0 [] free free p st (suc j) k (omega arith);
           long = st .long;
-          rest-same = λ q n b. st .rest-same q n (λ x k. absurd k) (rw e b) }
+          rest-same = λ q n b. st .rest-same q n (λ x k. absurd k) (rw e b);
+        }
 
     -- only where the bytes go does a byte change
     pub in-table-else : (q : ℕ) → ((n : ℕ) → n < length vs → q ≢ tableSpot c s (at + n)) → getD (inTable c s at vs) q 0 ≡ getD c q 0
@@ -68,11 +69,12 @@ module _ (s : Shape) (g : Good s) where
 
   pub in-table-then : (c c₁ c₂ ks : List ℕ) (w : ℕ → Own) (free tb₁ tb₂ : List ℕ) → InTable c c₁ s ks w free tb₁ → InTable c₁ c₂ s ks w free tb₂ → InTable c c₂ s ks w free tb₂
   in-table-then c c₁ c₂ ks w free tb₁ tb₂ a b = record {
-      parts = b .parts;
-      table-is = b .table-is ∙ a .table-is;
-      bytes-is = b .bytes-is;
-      blocks-is = b .blocks-is ∙ a .blocks-is;
-      spots = λ q l. b .spots q (rw (a .table-is) l) ∙ a .spots q l;
-      kept = λ j i. record { blocks = b .kept j i .blocks ∙ a .kept j i .blocks; bytes = b .kept j i .bytes ∙ a .kept j i .bytes };
-      long = b .long ∙ a .long;
-      rest-same = λ i n m. b .rest-same i n (rw (a .blocks-is) m) ∙ a .rest-same i n m }
+    parts = b .parts;
+    table-is = b .table-is ∙ a .table-is;
+    bytes-is = b .bytes-is;
+    blocks-is = b .blocks-is ∙ a .blocks-is;
+    spots = λ q l. b .spots q (rw (a .table-is) l) ∙ a .spots q l;
+    kept = λ j i. record { blocks = b .kept j i .blocks ∙ a .kept j i .blocks; bytes = b .kept j i .bytes ∙ a .kept j i .bytes };
+    long = b .long ∙ a .long;
+    rest-same = λ i n m. b .rest-same i n (rw (a .blocks-is) m) ∙ a .rest-same i n m;
+  }

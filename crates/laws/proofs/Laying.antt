@@ -61,8 +61,9 @@ module _ (s : Shape) (good : Good s) (c : List ℕ) (top h d p : ℕ) (vs free :
   unfolding laidTo
   laid-in zero k f l = absurd (omega arith)
   laid-in (suc n) k f l = elim (ℕ-discrete k n) [
-      yes e ↦ rw e (getD-set-same (laidTo n c s top h p vs) (spot c s top h (p + n)) (getD vs n 0) 0 (rw (laid-long n) (spot-long (p + n) (omega arith))))
-    | no u ↦ getD-set-other (laidTo n c s top h p vs) (spot c s top h (p + n)) (spot c s top h (p + k)) (getD vs n 0) 0 (λ e. u (omega (arith, spot-apart (p + k) (p + n) (omega arith) (omega arith) e))) ∙ laid-in n k (omega arith) (omega arith) ]
+    | yes e ↦ rw e (getD-set-same (laidTo n c s top h p vs) (spot c s top h (p + n)) (getD vs n 0) 0 (rw (laid-long n) (spot-long (p + n) (omega arith))))
+    | no u ↦ getD-set-other (laidTo n c s top h p vs) (spot c s top h (p + n)) (spot c s top h (p + k)) (getD vs n 0) 0 (λ e. u (omega (arith, spot-apart (p + k) (p + n) (omega arith) (omega arith) e))) ∙ laid-in n k (omega arith) (omega arith)
+  ]
 
   -- a block that is none of the stream's data keeps its bytes
   pub laid-same : (n b : ℕ) → p + n ≤ d * s .size → ((j : ℕ) → j < d → b ≢ node c s top h j) → SameIn s c (laidTo n c s top h p vs) b
@@ -74,13 +75,14 @@ module _ (s : Shape) (good : Good s) (c : List ℕ) (top h d p : ℕ) (vs free :
   unfolding level
   laid-node n e k j f u v = same-node s (two s good) c (laidTo n c s top h p vs) top h d (λ e k j u v.
       same-slot s (two s good) c (laidTo n c s top h p vs) _ _ (mod-lt j (omega (arith, two s good)))
-          (laid-same n _ f (λ j′ l w. let z = sk .apart e (suc k) (j / fan s) h 0 j′ u (level-holds (fan s) (two s good) k d j v) (omega arith) l w in omega arith))) e k j u v
+      (laid-same n _ f (λ j′ l w. let z = sk .apart e (suc k) (j / fan s) h 0 j′ u (level-holds (fan s) (two s good) k d j v) (omega arith) l w in omega arith))) e k j u v
 
   pub laid-skeleton : (n : ℕ) → p + n ≤ d * s .size → Skeleton (laidTo n c s top h p vs) s top h d free
   laid-skeleton n f = record {
-      low = λ e k j u v. rw (laid-node n e k j f u v) (sk .low e k j u v);
-      apart = λ e k j e′ k′ j′ u v u′ v′ w. sk .apart e k j e′ k′ j′ u v u′ v′ (sym (laid-node n e k j f u v) ∙ w ∙ laid-node n e′ k′ j′ f u′ v′);
-      out = λ e k j u v i. sk .out e k j u v (rw (laid-node n e k j f u v) at i) }
+    low = λ e k j u v. rw (laid-node n e k j f u v) (sk .low e k j u v);
+    apart = λ e k j e′ k′ j′ u v u′ v′ w. sk .apart e k j e′ k′ j′ u v u′ v′ (sym (laid-node n e k j f u v) ∙ w ∙ laid-node n e′ k′ j′ f u′ v′);
+    out = λ e k j u v i. sk .out e k j u v (rw (laid-node n e k j f u v) at i);
+  }
 
   pub laid-room : (n : ℕ) → p + n ≤ d * s .size → Room (laidTo n c s top h p vs) s free
   unfolding level
@@ -91,7 +93,8 @@ module _ (s : Shape) (good : Good s) (c : List ℕ) (top h d p : ℕ) (vs free :
         links = rw field (links-same (next c s) _ (firstFree c s) free (room .links) (λ x i. same-next s good c _ x
             (laid-same n x f (λ j l e. sk .out h 0 j (omega arith) l (rw (← e) i)))));
         low = room .low;
-        apart = room .apart }
+        apart = room .apart;
+      }
 
 -- the stream's bytes, one by one
 pub contents-at : (c : List ℕ) (s : Shape) (top d size q : ℕ) → q < size → getD (contents c s top d size) q 0 ≡ getD c (spot c s top (tall s d) q) 0
@@ -116,17 +119,19 @@ module _ (s : Shape) (good : Good s) (c : List ℕ) (top d size p : ℕ) (vs fre
 
   byte : (q : ℕ) → q < size → getD new (spot c s top (tall s d) q) 0 ≡ getD (over (contents c s top d size) p vs) q 0
   byte q l = elim (decLe p q) [
-      yes a ↦ elim (decLt q (p + length vs)) [
-        yes b ↦ (let e : p + (q - p) ≡ q = omega arith in
-            rw e at (laid-in s good c top (tall s d) d p vs free room sk (length vs) (q - p) (omega arith) (omega arith))
-            ∙ sym (over-in (contents c s top d size) p vs q (q - p) (sym e) (omega arith) (rw length-contents l)))
-      | no b ↦ away (omega arith) ]
-    | no a ↦ away (omega arith) ]
+    | yes a ↦ elim (decLt q (p + length vs)) [
+      | yes b ↦ (let e : p + (q - p) ≡ q = omega arith in
+          rw e at (laid-in s good c top (tall s d) d p vs free room sk (length vs) (q - p) (omega arith) (omega arith))
+          ∙ sym (over-in (contents c s top d size) p vs q (q - p) (sym e) (omega arith) (rw length-contents l)))
+      | no b ↦ away (omega arith)
+    ]
+    | no a ↦ away (omega arith)
+  ]
     where
       away : (p ≤ q → q < p + length vs → ⊥) → getD new (spot c s top (tall s d) q) 0 ≡ getD (over (contents c s top d size) p vs) q 0
       away n =
           laid-else s good c top (tall s d) d p vs free room sk (length vs) _
-              (λ k u e. let z = spot-apart s good c top (tall s d) d p vs free room sk q (p + k) (omega arith) (omega arith) e in n (omega arith) (omega arith))
+          (λ k u e. let z = spot-apart s good c top (tall s d) d p vs free room sk q (p + k) (omega arith) (omega arith) e in n (omega arith) (omega arith))
           ∙ sym (over-out (contents c s top d size) p vs q n ∙ contents-at c s top d size q l)
 
   pub contents-laid : contents (laid c s top (tall s d) p vs) s top d size ≡ over (contents c s top d size) p vs

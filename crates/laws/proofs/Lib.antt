@@ -42,3 +42,4 @@ pub mod Moves
 pub mod Adding
 pub mod Reuse
 pub mod Extend
+pub mod Undescribe

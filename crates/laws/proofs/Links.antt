@@ -29,8 +29,9 @@ pub links-walk : (g : ℕ) (next : ℕ → ℕ) (b : ℕ) → length (walk g nex
 unfolding walk
 links-walk zero next b h = absurd (omega arith)
 links-walk (suc g) next b h = elim (ℕ-discrete b end8) [
-    yes e ↦ rw (eqb-yes e) e
-  | no n ↦ rw (eqb-no n) (refl, n, links-walk g next (next b) (let h′ = rw (eqb-no n) at h in omega arith)) ]
+  | yes e ↦ rw (eqb-yes e) e
+  | no n ↦ rw (eqb-no n) (refl, n, links-walk g next (next b) (let h′ = rw (eqb-no n) at h in omega arith))
+]
 
 -- the same links, the same chain
 pub links-same : (next next′ : ℕ → ℕ) (b : ℕ) (xs : List ℕ) → Links next b xs → ((x : ℕ) → In x xs → next′ x ≡ next x) → Links next′ b xs

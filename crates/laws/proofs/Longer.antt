@@ -37,7 +37,14 @@ beyond-right s xs ys i b x k = b x (in-right x xs ys k)
 module _ (s : Shape) (good : Good s) where
   none-longer : (c : List ℕ) (top d : ℕ) (rest : List ℕ) → Room c s rest → Skeleton c s top (height (fan s) d) d rest → Longer s c top d d [] rest (record { card = c; top = top })
   none-longer c top d rest r sk = record {
-      room = r; bones = sk; stay = λ j l. refl; same = λ j l i p q. refl; zeros = λ j a b. absurd (omega arith); rest-same = λ i a b n. refl; from = λ b i. inl i }
+    room = r;
+    bones = sk;
+    stay = λ j l. refl;
+    same = λ j l i p q. refl;
+    zeros = λ j a b. absurd (omega arith);
+    rest-same = λ i a b n. refl;
+    from = λ b i. inl i;
+  }
 
   -- a step, and then what follows
   module _ (c : List ℕ) (top d D : ℕ) (xs ys rest : List ℕ) (room : Room c s (xs ++ (ys ++ rest))) (sk : Skeleton c s top (height (fan s) d) d (xs ++ (ys ++ rest)))
@@ -65,21 +72,24 @@ module _ (s : Shape) (good : Good s) where
     step-longer : Longer s c top d D (xs ++ ys) rest g
     unfolding level
     step-longer = record {
-        room = on .room;
-        bones = on .bones;
-        stay = λ j l. on .stay j (omega arith) ∙ all .old (height (fan s) d) (height (fan s) (suc d)) 0 j (omega arith) (omega arith) l;
-        same = λ j l i p q. (let w = all .old (height (fan s) d) (height (fan s) (suc d)) 0 j (omega arith) (omega arith) l in
-            rw w at (on .same j (omega arith)) i p q ∙ grown-data s good c top d xs (ys ++ rest) room sk many j l i p q);
-        zeros = λ j a b i w. elim (decLt d j) [
-            yes l ↦ on .zeros j l b i w
-          | no l ↦ (let t : j ≡ d = omega arith in
-              let w′ = rw (t, on .stay d (omega arith)) at w in
-              on .same d (omega arith) i (w′ .0) (w′ .1) ∙ all .zeros i w′) ];
-        rest-same = λ i a b n. on .rest-same i a (beyond-right s xs ys i b) (next-beyond i (beyond-left s xs ys i b) n)
-            ∙ all .rest-same i a (beyond-left s xs ys i b) (λ e k j o p q w. n _ (in-pyramid s (two s good) c top d e k j p q) w);
-        from = λ b i. elim (on .from b i) [
-            inl p ↦ elim (one-from b p) [ inl q ↦ inl q | inr q ↦ inr (in-left b xs ys q) ]
-          | inr p ↦ inr (in-right b xs ys p) ] }
+      room = on .room;
+      bones = on .bones;
+      stay = λ j l. on .stay j (omega arith) ∙ all .old (height (fan s) d) (height (fan s) (suc d)) 0 j (omega arith) (omega arith) l;
+      same = λ j l i p q. (let w = all .old (height (fan s) d) (height (fan s) (suc d)) 0 j (omega arith) (omega arith) l in
+          rw w at (on .same j (omega arith)) i p q ∙ grown-data s good c top d xs (ys ++ rest) room sk many j l i p q);
+      zeros = λ j a b i w. elim (decLt d j) [
+        | yes l ↦ on .zeros j l b i w
+        | no l ↦ (let t : j ≡ d = omega arith in
+            let w′ = rw (t, on .stay d (omega arith)) at w in
+            on .same d (omega arith) i (w′ .0) (w′ .1) ∙ all .zeros i w′)
+      ];
+      rest-same = λ i a b n. on .rest-same i a (beyond-right s xs ys i b) (next-beyond i (beyond-left s xs ys i b) n)
+          ∙ all .rest-same i a (beyond-left s xs ys i b) (λ e k j o p q w. n _ (in-pyramid s (two s good) c top d e k j p q) w);
+      from = λ b i. elim (on .from b i) [
+        | inl p ↦ elim (one-from b p) [ inl q ↦ inl q | inr q ↦ inr (in-left b xs ys q) ]
+        | inr p ↦ inr (in-right b xs ys p)
+      ];
+    }
 
   pub longer : (n : ℕ) (c : List ℕ) (top d D : ℕ) (xs rest : List ℕ) → D ≡ d + n → Room c s (xs ++ rest) → Skeleton c s top (height (fan s) d) d (xs ++ rest)
       → P (fan s) D ≡ P (fan s) d + length xs → Longer s c top d D xs rest (grown c s top d n)
@@ -98,6 +108,6 @@ module _ (s : Shape) (good : Good s) where
       let m₁ : P (fan s) (suc d) ≡ P (fan s) d + length (take a xs) = rw length-take (omega arith) in
       let m₂ : P (fan s) D ≡ P (fan s) (suc d) + length (drop a xs) = rw length-drop (omega arith) in
       rw e₁ (step-longer c top d D (take a xs) (drop a xs) rest r′ sk′ m₁ (grown (one .card) s (one .top) (suc d) n)
-          (longer n (one .card) (one .top) (suc d) D (drop a xs) rest (omega arith)
-              (grew s good c top d (take a xs) (drop a xs ++ rest) r′ sk′ m₁ .room)
-              (grown-skeleton s good c top d (take a xs) (drop a xs ++ rest) r′ sk′ m₁) m₂) (omega arith))
+      (longer n (one .card) (one .top) (suc d) D (drop a xs) rest (omega arith)
+      (grew s good c top d (take a xs) (drop a xs ++ rest) r′ sk′ m₁ .room)
+      (grown-skeleton s good c top d (take a xs) (drop a xs ++ rest) r′ sk′ m₁) m₂) (omega arith))

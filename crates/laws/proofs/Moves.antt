@@ -39,10 +39,13 @@ data-at s g t r n h = omega (arith, right-data s g t r, data-mono s g (t .size) 
 module _ (c : List ℕ) (s : Shape) (w : Core c s) (k : ℕ) (lk : In k (livesOf c s)) where
   abbrev g : Good s
   g = core-good c s w
+
   abbrev ks : List ℕ
   ks = owners c s
+
   abbrev here : In (suc k) (owners c s)
   here = owner-stream c s w k lk
+
   abbrev old : Own
   old = own c s (suc k)
 
@@ -54,8 +57,20 @@ module _ (c : List ℕ) (s : Shape) (w : Core c s) (k : ℕ) (lk : In k (livesOf
 
   pub unchanged : Edit c c s k (streamBytes c s k) [] (chain c s)
   unchanged = record {
-      core = w; mine = refl; chain-is = refl; first-is = refl; slots-is = refl; lives-is = refl; blocks-of = λ j i n. refl; bytes-of = λ j i n. refl; table-of = refl;
-      from = λ b m. inl m; spots = λ q l. refl; long = refl; rest-same = λ i a b m d. refl }
+    core = w;
+    mine = refl;
+    chain-is = refl;
+    first-is = refl;
+    slots-is = refl;
+    lives-is = refl;
+    blocks-of = λ j i n. refl;
+    bytes-of = λ j i n. refl;
+    table-of = refl;
+    from = λ b m. inl m;
+    spots = λ q l. refl;
+    long = refl;
+    rest-same = λ i a b m d. refl;
+  }
 
   -- ---- in place
 
@@ -89,7 +104,12 @@ module _ (c : List ℕ) (s : Shape) (w : Core c s) (k : ℕ) (lk : In k (livesOf
 
     red : Redescribed (tableBytes c s) (tableBytes c′ s) k
     red = rw bytes-is (record {
-        long = refl; first = refl; others = λ j l n. refl; lived = lives-in (tableBytes c s) k lk .1; alive = lives-in (tableBytes c s) k lk .1 })
+      long = refl;
+      first = refl;
+      others = λ j l n. refl;
+      lived = lives-in (tableBytes c s) k lk .1;
+      alive = lives-in (tableBytes c s) k lk .1;
+    })
 
     form : Form s (stream c′ s k)
     form = rw (desc-is k) (w .forms k (lives-in (tableBytes c s) k lk .0))
@@ -104,37 +124,44 @@ module _ (c : List ℕ) (s : Shape) (w : Core c s) (k : ℕ) (lk : In k (livesOf
     pub written : Edit c c′ s k (over (streamBytes c s k) p vs) [] (chain c s)
     unfolding streamBytes streamBlocks tableBlocks inStream
     written = record {
-        core = core-again c c′ s k w lk (st .long) head red form (chain c s) parts;
-        mine = ap (λ (t : Desc). text c′ s (ownOf s t)) (desc-is k)
-            ∙ contents-laid s g c (old .top) (old .d) (old .size) p vs (chain c s) (w .parts .room) (w .parts .bones (suc k) here) within fits;
-        chain-is = chain-again c c′ s k w lk (st .long) head red form (chain c s) parts;
-        first-is = red .first;
-        slots-is = slots-same (tableBytes c s) (tableBytes c′ s) k red;
-        lives-is = lives-same (tableBytes c s) (tableBytes c′ s) k red;
-        blocks-of = λ j i n. ap (λ (t : Desc). blocks c′ s (ownOf s t)) (desc-is j) ∙ kept (suc j) (owner-stream c s w j i) (omega arith) .blocks;
-        bytes-of = λ j i n. ap (λ (t : Desc). text c′ s (ownOf s t)) (desc-is j) ∙ kept (suc j) (owner-stream c s w j i) (omega arith) .bytes;
-        table-of = ap (λ (t : Desc). blocks c′ s (ownOf s t)) table-is ∙ kept 0 (owner-table c s w) (omega arith) .blocks;
-        from = λ b m. st .from b (rw (ap (λ (t : Desc). blocks c′ s (ownOf s t)) (desc-is k)) at m);
-        spots = λ q l. ap (λ (t : Desc). spot c′ s (t .top) (tall s (dataOf s t)) q) table-is
-            ∙ step-spot s g c c′ ks (own c s) (own c s) (suc k) [] (chain c s) (chain c s) (w .parts) st 0 (owner-table c s w) (omega arith) q (omega (arith, right-fits s g (table c s) (w .right)));
-        long = st .long;
-        rest-same = λ i a b m d. st .rest-same i a b m }
+      core = core-again c c′ s k w lk (st .long) head red form (chain c s) parts;
+      mine = ap (λ (t : Desc). text c′ s (ownOf s t)) (desc-is k)
+          ∙ contents-laid s g c (old .top) (old .d) (old .size) p vs (chain c s) (w .parts .room) (w .parts .bones (suc k) here) within fits;
+      chain-is = chain-again c c′ s k w lk (st .long) head red form (chain c s) parts;
+      first-is = red .first;
+      slots-is = slots-same (tableBytes c s) (tableBytes c′ s) k red;
+      lives-is = lives-same (tableBytes c s) (tableBytes c′ s) k red;
+      blocks-of = λ j i n. ap (λ (t : Desc). blocks c′ s (ownOf s t)) (desc-is j) ∙ kept (suc j) (owner-stream c s w j i) (omega arith) .blocks;
+      bytes-of = λ j i n. ap (λ (t : Desc). text c′ s (ownOf s t)) (desc-is j) ∙ kept (suc j) (owner-stream c s w j i) (omega arith) .bytes;
+      table-of = ap (λ (t : Desc). blocks c′ s (ownOf s t)) table-is ∙ kept 0 (owner-table c s w) (omega arith) .blocks;
+      from = λ b m. st .from b (rw (ap (λ (t : Desc). blocks c′ s (ownOf s t)) (desc-is k)) at m);
+      spots = λ q l. ap (λ (t : Desc). spot c′ s (t .top) (tall s (dataOf s t)) q) table-is
+          ∙ step-spot s g c c′ ks (own c s) (own c s) (suc k) [] (chain c s) (chain c s) (w .parts) st 0 (owner-table c s w) (omega arith) q (omega (arith, right-fits s g (table c s) (w .right)));
+      long = st .long;
+      rest-same = λ i a b m d. st .rest-same i a b m;
+    }
 
   -- ---- longer
 
   module _ (size : ℕ) (more : stream c s k .size < size) (enough : P (fan s) (dataAt s (stream c s k) size) ≤ P (fan s) (dataOf s (stream c s k)) + length (chain c s)) where
     abbrev d : ℕ
     d = dataOf s (stream c s k)
+
     abbrev D : ℕ
     D = dataAt s (stream c s k) size
+
     abbrev pub grew : Grown
     grew = grown c s (stream c s k .top) d (D - d)
+
     abbrev pub o : Own
     o = record { top = grew .top; d = D; size = size }
+
     abbrev many : ℕ
     many = P (fan s) D - P (fan s) d
+
     abbrev xs : List ℕ
     xs = take many (chain c s)
+
     abbrev rest : List ℕ
     rest = drop many (chain c s)
 
@@ -176,10 +203,13 @@ module _ (c : List ℕ) (s : Shape) (w : Core c s) (k : ℕ) (lk : In k (livesOf
   module _ (size : ℕ) (less : size ≤ stream c s k .size) where
     abbrev e : ℕ
     e = dataOf s (stream c s k)
+
     abbrev e′ : ℕ
     e′ = dataFor s size
+
     abbrev pub gone : List ℕ
     gone = surplus c s (stream c s k .top) e e′
+
     abbrev o′ : Own
     o′ = record { top = loweredTop c s (stream c s k .top) e e′; d = e′; size = size }
 
@@ -208,16 +238,16 @@ module _ (c : List ℕ) (s : Shape) (w : Core c s) (k : ℕ) (lk : In k (livesOf
         let up : height (fan s) e - height (fan s) e′ + height (fan s) e′ ≡ height (fan s) e = omega arith in
         let same = shorter-node s g c (old .top) e e′ (chain c s) room sk fewer some (height (fan s) e′) 0 (q / s .size) (omega arith) j in
         rw (same, up) (shorter-same s g c (old .top) e e′ (chain c s) room sk fewer (node c s (old .top) (height (fan s) e) (q / s .size))
-            (stays s g c (old .top) e e′ (chain c s) room sk fewer (height (fan s) e) 0 (q / s .size) (omega arith) (omega arith) j)
-            (spot c s (old .top) (tall s (old .d)) q) (omega arith) (omega arith))
+        (stays s g c (old .top) e e′ (chain c s) room sk fewer (height (fan s) e) 0 (q / s .size) (omega arith) (omega arith) j)
+        (spot c s (old .top) (tall s (old .d)) q) (omega arith) (omega arith))
 
     short-text : text (givenBack c s gone) s o′ ≡ take size (streamBytes c s k)
     unfolding streamBytes
     short-text = ext-getD 0 _ _
         (length-contents (givenBack c s gone) s (o′ .top) e′ size ∙ sym (length-take size (contents c s (old .top) (old .d) (old .size)) ∙ rw length-contents (omega arith)))
         (λ q l. let l′ : q < size = rw length-contents at l in
-          contents-at (givenBack c s gone) s (o′ .top) e′ size q l′ ∙ short-byte q l′
-          ∙ sym (getD-take size (contents c s (old .top) (old .d) (old .size)) q 0 l′ ∙ contents-at c s (old .top) (old .d) (old .size) q (omega arith)))
+        contents-at (givenBack c s gone) s (o′ .top) e′ size q l′ ∙ short-byte q l′
+        ∙ sym (getD-take size (contents c s (old .top) (old .d) (old .size)) q 0 l′ ∙ contents-at c s (old .top) (old .d) (old .size) q (omega arith)))
 
     pub shorten : Edit c (shortened c s k size) s k (take size (streamBytes c s k)) [] (rising (s .count) 0 gone ++ chain c s)
     unfolding shortened

@@ -40,8 +40,10 @@ ownOf s t = record { top = t .top; d = dataOf s t; size = t .size }
 
 abbrev pub blocks : List ℕ → Shape → Own → List ℕ
 blocks c s o = pyramid c s (o .top) (o .d)
+
 abbrev pub text : List ℕ → Shape → Own → List ℕ
 text c s o = contents c s (o .top) (o .d) (o .size)
+
 abbrev pub cost : Shape → Own → ℕ
 cost s o = P (fan s) (o .d)
 
@@ -81,13 +83,15 @@ module _ (s : Shape) (good : Good s) where
 
     step-out : (j : ℕ) → In j ks → j ≢ k → (b : ℕ) → In b (blocks c s (own j)) → In b free′ → ⊥
     step-out j i n b m t = elim (st .freed b t) [
-        inl a ↦ skeleton-out s f2 c (own j .top) (own j .d) free (p .bones j i) b m a
-      | inr a ↦ p .apart j k i (st .there) n b m a ]
+      | inl a ↦ skeleton-out s f2 c (own j .top) (own j .d) free (p .bones j i) b m a
+      | inr a ↦ p .apart j k i (st .there) n b m a
+    ]
 
     pub step-keeps : (j : ℕ) → In j ks → j ≢ k → Kept s c c′ (own j .top) (own j .d) (own j .size)
     step-keeps j i n = record {
-        blocks = frame-pyramid s f2 c c′ (own j .top) (own j .d) (step-same j i n);
-        bytes = frame-contents s f2 c c′ (own j .top) (own j .d) (own j .size) (p .fits j i) (step-same j i n) }
+      blocks = frame-pyramid s f2 c c′ (own j .top) (own j .d) (step-same j i n);
+      bytes = frame-contents s f2 c c′ (own j .top) (own j .d) (own j .size) (p .fits j i) (step-same j i n);
+    }
 
     -- a byte of another stream is where it was
     pub step-spot : (j : ℕ) → In j ks → j ≢ k → (q : ℕ) → q < own j .d * s .size → spot c′ s (own j .top) (tall s (own j .d)) q ≡ spot c s (own j .top) (tall s (own j .d)) q
@@ -100,32 +104,37 @@ module _ (s : Shape) (good : Good s) where
 
     step-bones : (j : ℕ) → In j ks → Skeleton c′ s (own′ j .top) (tall s (own′ j .d)) (own′ j .d) free′
     step-bones j i = elim (ℕ-discrete j k) [
-        yes e ↦ rw e (st .bones)
-      | no n ↦ rw (st .others j i n) (frame-skeleton s f2 c c′ (own j .top) (own j .d) free free′ (step-same j i n) (p .bones j i) (step-out j i n)) ]
+      | yes e ↦ rw e (st .bones)
+      | no n ↦ rw (st .others j i n) (frame-skeleton s f2 c c′ (own j .top) (own j .d) free free′ (step-same j i n) (p .bones j i) (step-out j i n))
+    ]
 
     -- another stream has none of stream k's blocks
     step-against : (j : ℕ) → In j ks → j ≢ k → (b : ℕ) → In b (blocks c′ s (own′ j)) → In b (blocks c′ s (own′ k)) → ⊥
     step-against j i n b m t =
         let m′ = rw (st .others j i n, step-keeps j i n .blocks) at m in
         elim (st .from b t) [
-            inl a ↦ p .apart j k i (st .there) n b m′ a
-          | inr a ↦ skeleton-out s f2 c (own j .top) (own j .d) free (p .bones j i) b m′ (st .taken b a) ]
+          | inl a ↦ p .apart j k i (st .there) n b m′ a
+          | inr a ↦ skeleton-out s f2 c (own j .top) (own j .d) free (p .bones j i) b m′ (st .taken b a)
+        ]
 
     step-apart : (j j′ : ℕ) → In j ks → In j′ ks → j ≢ j′ → (b : ℕ) → In b (blocks c′ s (own′ j)) → In b (blocks c′ s (own′ j′)) → ⊥
     step-apart j j′ i i′ n b m m′ = elim (ℕ-discrete j k) [
-        yes e ↦ step-against j′ i′ (λ u. n (e ∙ sym u)) b m′ (rw e at m)
+      | yes e ↦ step-against j′ i′ (λ u. n (e ∙ sym u)) b m′ (rw e at m)
       | no a ↦ elim (ℕ-discrete j′ k) [
-          yes e ↦ step-against j i a b m (rw e at m′)
-        | no a′ ↦ p .apart j j′ i i′ n b (rw (st .others j i a, step-keeps j i a .blocks) at m) (rw (st .others j′ i′ a′, step-keeps j′ i′ a′ .blocks) at m′) ] ]
+        | yes e ↦ step-against j i a b m (rw e at m′)
+        | no a′ ↦ p .apart j j′ i i′ n b (rw (st .others j i a, step-keeps j i a .blocks) at m) (rw (st .others j′ i′ a′, step-keeps j′ i′ a′ .blocks) at m′)
+      ]
+    ]
 
     pub step-parts : Parts c′ s ks own′ free′
     step-parts = record {
-        room = st .room;
-        fits = step-fits;
-        bones = step-bones;
-        apart = step-apart;
-        once = p .once;
-        sum = omega (arith, p .sum, st .sum, total-change (λ j. cost s (own j)) (λ j. cost s (own′ j)) k ks (p .once) (st .there) (λ j i n. ap (cost s) (st .others j i n))) }
+      room = st .room;
+      fits = step-fits;
+      bones = step-bones;
+      apart = step-apart;
+      once = p .once;
+      sum = omega (arith, p .sum, st .sum, total-change (λ j. cost s (own j)) (λ j. cost s (own′ j)) k ks (p .once) (st .there) (λ j i n. ap (cost s) (st .others j i n)));
+    }
 
   -- ---- the three steps
 
@@ -159,15 +168,17 @@ module _ (s : Shape) (good : Good s) where
           sum = refl;
           rest-same = λ q a b e. laid-else s good c (o .top) h d at vs free (p .room) (p .bones k i) n q (λ t l w.
               e (node c s (o .top) h ((at + t) / s .size))
-                (in-pyramid s f2 c (o .top) d h 0 ((at + t) / s .size) (omega arith) (data-in s good c (o .top) h d at vs free (p .room) (p .bones k i) (at + t) (omega arith)))
-                (rw w (spot-inside s good c (o .top) h d at vs free (p .room) (p .bones k i) (at + t))));
-          long = length-laid s n c (o .top) h at vs }
+              (in-pyramid s f2 c (o .top) d h 0 ((at + t) / s .size) (omega arith) (data-in s good c (o .top) h d at vs free (p .room) (p .bones k i) (at + t) (omega arith)))
+              (rw w (spot-inside s good c (o .top) h d at vs free (p .room) (p .bones k i) (at + t))));
+          long = length-laid s n c (o .top) h at vs;
+        }
 
     -- fewer blocks
     module _ (own′ : ℕ → Own) (d′ size : ℕ) (fewer : d′ ≤ own k .d) (fits : size ≤ d′ * s .size)
         (new : own′ k ≡ record { top = loweredTop c s (own k .top) (own k .d) d′; d = d′; size = size }) (others : (j : ℕ) → In j ks → j ≢ k → own′ j ≡ own j) where
       abbrev d : ℕ
       d = own k .d
+
       abbrev gone : List ℕ
       gone = surplus c s (own k .top) d d′
 
@@ -177,8 +188,9 @@ module _ (s : Shape) (good : Good s) where
 
       low-bones : Skeleton (givenBack c s gone) s (loweredTop c s (own k .top) d d′) (height (fan s) d′) d′ (rising (s .count) 0 gone ++ free)
       low-bones = elim (ℕ-discrete d′ 0) [
-          yes e ↦ rw e (skeleton-none s f2 _ _ _ _)
-        | no n ↦ shorter-skeleton s good c (own k .top) d d′ free (p .room) (p .bones k i) fewer (omega arith) ]
+        | yes e ↦ rw e (skeleton-none s f2 _ _ _ _)
+        | no n ↦ shorter-skeleton s good c (own k .top) d d′ free (p .room) (p .bones k i) fewer (omega arith)
+      ]
 
       low-from : (b : ℕ) → In b (pyramid (givenBack c s gone) s (loweredTop c s (own k .top) d d′) d′) → In b (blocks c s (own k))
       low-from b m =
@@ -186,8 +198,8 @@ module _ (s : Shape) (good : Good s) where
           let some : 1 ≤ d′ = positive d′ (r .1) (r .2) (r .4) in
           let h = low-enough s good c (own k .top) d d′ free (p .room) (p .bones k i) fewer some in
           rw (r .5 ∙ shorter-node s good c (own k .top) d d′ free (p .room) (p .bones k i) fewer some (r .0) (r .1) (r .2) (r .3) (r .4))
-              (in-pyramid s f2 c (own k .top) d (height (fan s) d - height (fan s) d′ + r .0) (r .1) (r .2) (omega (arith, r .3))
-                  (omega (arith, r .4, level-mono (fan s) f2 (r .1) d′ d fewer)))
+          (in-pyramid s f2 c (own k .top) d (height (fan s) d - height (fan s) d′ + r .0) (r .1) (r .2) (omega (arith, r .3))
+          (omega (arith, r .4, level-mono (fan s) f2 (r .1) d′ d fewer)))
         where
           positive : (d : ℕ) (k j : ℕ) → j < level (fan s) k d → 1 ≤ d
           positive zero k j l = absurd (omega (arith, level-none (fan s) f2 k))
@@ -195,21 +207,23 @@ module _ (s : Shape) (good : Good s) where
 
       pub give : Step s c (givenBack c s gone) ks own own′ k [] free (rising (s .count) 0 gone ++ free)
       give = record {
-          there = i;
-          others = others;
-          fits = rw new fits;
-          room = shorter-room s good c (own k .top) d d′ free (p .room) (p .bones k i) fewer;
-          bones = rw new low-bones;
-          from = λ b m. inl (low-from b (rw new at m));
-          taken = λ b m. absurd m;
-          freed = λ b m. elim (in-either b (rising (s .count) 0 gone) free m) [
-              inl a ↦ inr (gone-in b (rising-in gone (s .count) 0 b a))
-            | inr a ↦ inl a ];
-          sum = rw (new, length-append, length-rising (s .count) gone (surplus-distinct s f2 c (own k .top) d d′ free (p .bones k i)) (gone-low s good c (own k .top) d d′ free (p .room) (p .bones k i) fewer))
-              (omega (arith, length-surplus s f2 c (own k .top) d d′ fewer));
-          rest-same = λ q a b e. given-else s good c free gone (p .room) (gone-low s good c (own k .top) d d′ free (p .room) (p .bones k i) fewer) (gone-out s good c (own k .top) d d′ free (p .room) (p .bones k i) fewer)
-              q a (λ x m u v. e x (gone-in x m) (u, omega (arith, good .wide)));
-          long = length-given s c gone }
+        there = i;
+        others = others;
+        fits = rw new fits;
+        room = shorter-room s good c (own k .top) d d′ free (p .room) (p .bones k i) fewer;
+        bones = rw new low-bones;
+        from = λ b m. inl (low-from b (rw new at m));
+        taken = λ b m. absurd m;
+        freed = λ b m. elim (in-either b (rising (s .count) 0 gone) free m) [
+          | inl a ↦ inr (gone-in b (rising-in gone (s .count) 0 b a))
+          | inr a ↦ inl a
+        ];
+        sum = rw (new, length-append, length-rising (s .count) gone (surplus-distinct s f2 c (own k .top) d d′ free (p .bones k i)) (gone-low s good c (own k .top) d d′ free (p .room) (p .bones k i) fewer))
+            (omega (arith, length-surplus s f2 c (own k .top) d d′ fewer));
+        rest-same = λ q a b e. given-else s good c free gone (p .room) (gone-low s good c (own k .top) d d′ free (p .room) (p .bones k i) fewer) (gone-out s good c (own k .top) d d′ free (p .room) (p .bones k i) fewer)
+            q a (λ x m u v. e x (gone-in x m) (u, omega (arith, good .wide)));
+        long = length-given s c gone;
+      }
 
   -- more blocks
   module _ (c ks : List ℕ) (own own′ : ℕ → Own) (k : ℕ) (xs rest : List ℕ) (p : Parts c s ks own (xs ++ rest)) (i : In k ks) (D size : ℕ) where
@@ -222,29 +236,31 @@ module _ (s : Shape) (good : Good s) where
 
       pub grow : own′ k ≡ record { top = grew .top; d = D; size = size } → ((j : ℕ) → In j ks → j ≢ k → own′ j ≡ own j) → Step s c (grew .card) ks own own′ k xs (xs ++ rest) rest
       grow new others = record {
-          there = i;
-          others = others;
-          room = grow-longer .room;
-          fits = rw new fits;
-          bones = rw new (grow-longer .bones);
-          from = λ b m. grow-longer .from b (rw new at m);
-          taken = λ b m. in-left b xs rest m;
-          freed = λ b m. inl (in-right b xs rest m);
-          sum = rw (new, length-append) (omega arith);
-          rest-same = grow-longer .rest-same;
-          long = length-grown s (D - own k .d) c (own k .top) (own k .d) }
+        there = i;
+        others = others;
+        room = grow-longer .room;
+        fits = rw new fits;
+        bones = rw new (grow-longer .bones);
+        from = λ b m. grow-longer .from b (rw new at m);
+        taken = λ b m. in-left b xs rest m;
+        freed = λ b m. inl (in-right b xs rest m);
+        sum = rw (new, length-append) (omega arith);
+        rest-same = grow-longer .rest-same;
+        long = length-grown s (D - own k .d) c (own k .top) (own k .d);
+      }
 
 -- ---- the streams of a card, in another order, with an empty one more or less
 
 module _ (c : List ℕ) (s : Shape) (ks : List ℕ) (own : ℕ → Own) (free : List ℕ) where
   pub parts-same : (ks′ : List ℕ) → Parts c s ks own free → Distinct ks′ → ((k : ℕ) → In k ks′ → In k ks) → ((k : ℕ) → In k ks → In k ks′) → Parts c s ks′ own free
   parts-same ks′ p d f g = record {
-      room = p .room;
-      fits = λ k i. p .fits k (f k i);
-      bones = λ k i. p .bones k (f k i);
-      apart = λ k k′ i i′. p .apart k k′ (f k i) (f k′ i′);
-      once = d;
-      sum = omega (arith, p .sum, total-same (λ k. cost s (own k)) ks′ ks d (same-many ks′ ks d (p .once) f g) f) }
+    room = p .room;
+    fits = λ k i. p .fits k (f k i);
+    bones = λ k i. p .bones k (f k i);
+    apart = λ k k′ i i′. p .apart k k′ (f k i) (f k′ i′);
+    once = d;
+    sum = omega (arith, p .sum, total-same (λ k. cost s (own k)) ks′ ks d (same-many ks′ ks d (p .once) f g) f);
+  }
 
   module _ (good : Good s) (m : ℕ) (none : own m .d ≡ 0) (short : own m .size ≡ 0) where
     no-cost : cost s (own m) ≡ 0
@@ -265,9 +281,11 @@ module _ (c : List ℕ) (s : Shape) (ks : List ℕ) (own : ℕ → Own) (free : 
         fits : (k : ℕ) → In k (m ∷ ks) → own k .size ≤ own k .d * s .size
         fits k (inl e) = rw (e, short) (omega arith)
         fits k (inr i) = p .fits k i
+
         bones : (k : ℕ) → In k (m ∷ ks) → Skeleton c s (own k .top) (tall s (own k .d)) (own k .d) free
         bones k (inl e) = rw (e, none) (skeleton-none s (two s good) c (own m .top) _ free)
         bones k (inr i) = p .bones k i
+
         apart : (k k′ : ℕ) → In k (m ∷ ks) → In k′ (m ∷ ks) → k ≢ k′ → (b : ℕ) → In b (blocks c s (own k)) → In b (blocks c s (own k′)) → ⊥
         apart k k′ (inl e) i′ n b u v = no-blocks b (rw e at u)
         apart k k′ (inr i) (inl e) n b u v = no-blocks b (rw e at v)
@@ -276,19 +294,21 @@ module _ (c : List ℕ) (s : Shape) (ks : List ℕ) (own : ℕ → Own) (free : 
     pub parts-drop : Parts c s (m ∷ ks) own free → Parts c s ks own free
     unfolding total
     parts-drop p = record {
-        room = p .room;
-        fits = λ k i. p .fits k (inr i);
-        bones = λ k i. p .bones k (inr i);
-        apart = λ k k′ i i′. p .apart k k′ (inr i) (inr i′);
-        once = p .once .1;
-        sum = omega (arith, p .sum, no-cost) }
+      room = p .room;
+      fits = λ k i. p .fits k (inr i);
+      bones = λ k i. p .bones k (inr i);
+      apart = λ k k′ i i′. p .apart k k′ (inr i) (inr i′);
+      once = p .once .1;
+      sum = omega (arith, p .sum, no-cost);
+    }
 
 -- streams that are where they were
 pub parts-own : (c : List ℕ) (s : Shape) (ks : List ℕ) (w w′ : ℕ → Own) (free : List ℕ) → ((j : ℕ) → In j ks → w′ j ≡ w j) → Parts c s ks w free → Parts c s ks w′ free
 parts-own c s ks w w′ free e p = record {
-    room = p .room;
-    fits = λ k i. rw (e k i) (p .fits k i);
-    bones = λ k i. rw (e k i) (p .bones k i);
-    apart = λ k k′ i i′ n b m m′. p .apart k k′ i i′ n b (rw (e k i) at m) (rw (e k′ i′) at m′);
-    once = p .once;
-    sum = omega (arith, p .sum, total-agree (λ k. cost s (w k)) (λ k. cost s (w′ k)) ks (λ k i. ap (cost s) (e k i))) }
+  room = p .room;
+  fits = λ k i. rw (e k i) (p .fits k i);
+  bones = λ k i. rw (e k i) (p .bones k i);
+  apart = λ k k′ i i′ n b m m′. p .apart k k′ i i′ n b (rw (e k i) at m) (rw (e k′ i′) at m′);
+  once = p .once;
+  sum = omega (arith, p .sum, total-agree (λ k. cost s (w k)) (λ k. cost s (w′ k)) ks (λ k i. ap (cost s) (e k i)));
+}

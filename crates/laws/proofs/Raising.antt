@@ -63,8 +63,8 @@ module _ (s : Shape) (good : Good s) (c : List ℕ) (top h d x : ℕ) (free : Li
   crowned-old e k j p q =
       let z : above (fan s) e j ≡ 0 = omega (arith, rw p at (above-level (fan s) (two s good) e k d j q)) in
       rw (node-below (crowned c s top x) s (two s good) x e j, z, zero-mod (fan s), crowned-slot)
-          (same-node s (two s good) c (crowned c s top x) top h d (λ e k j p q. same-slot s (two s good) c (crowned c s top x) _ _ (mod-lt j zero-fits)
-              (crowned-same _ (not-x e (suc k) (j / fan s) p (level-holds (fan s) (two s good) k d j q)))) e k j p q)
+      (same-node s (two s good) c (crowned c s top x) top h d (λ e k j p q. same-slot s (two s good) c (crowned c s top x) _ _ (mod-lt j zero-fits)
+      (crowned-same _ (not-x e (suc k) (j / fan s) p (level-holds (fan s) (two s good) k d j q)))) e k j p q)
 
   pub crowned-skeleton : Skeleton (crowned c s top x) s x (suc h) d free
   unfolding node
@@ -73,11 +73,14 @@ module _ (s : Shape) (good : Good s) (c : List ℕ) (top h d x : ℕ) (free : Li
       low : (e k j : ℕ) → e + k ≡ suc h → j < level (fan s) k d → node (crowned c s top x) s x e j < s .count
       low zero k j p q = x-low
       low (suc e) k j p q = rw (crowned-old e k j (omega arith) q) (sk .low e k j (omega arith) q)
+
       out : (e k j : ℕ) → e + k ≡ suc h → j < level (fan s) k d → In (node (crowned c s top x) s x e j) free → ⊥
       out zero k j p q i = room .apart .0 i
       out (suc e) k j p q i = sk .out e k j (omega arith) q (inr (rw (crowned-old e k j (omega arith) q) at i))
+
       only : (k j : ℕ) → 0 + k ≡ suc h → j < level (fan s) k d → j ≡ 0
       only k j p q = let e : k ≡ suc h = omega arith in omega (arith, rw e at q, one-more (fan s) (two s good) h d single)
+
       apart : (e k j e′ k′ j′ : ℕ) → e + k ≡ suc h → j < level (fan s) k d → e′ + k′ ≡ suc h → j′ < level (fan s) k′ d → node (crowned c s top x) s x e j ≡ node (crowned c s top x) s x e′ j′ → (k ≡ k′) × (j ≡ j′)
       apart zero k j zero k′ j′ p q p′ q′ n = (omega arith, omega (arith, only k j p q, only k′ j′ p′ q′))
       apart zero k j (suc e′) k′ j′ p q p′ q′ n = absurd (not-x e′ k′ j′ (omega arith) q′ (sym (n ∙ crowned-old e′ k′ j′ (omega arith) q′)))

@@ -24,12 +24,16 @@ use Rattle.layout.specs.declared.Shape.{Shape}
 module _ (c : List ℕ) (s : Shape) (w : Core c s) (j : ℕ) (xs : List ℕ) (ch : descChain (tableBytes c s) ≡ offset j ∷ xs) where
   abbrev tb : List ℕ
   tb = tableBytes c s
+
   abbrev tb₁ : List ℕ
   tb₁ = over tb 0 (bytes 8 (num 8 tb (offset j)))
+
   abbrev tb₂ : List ℕ
   tb₂ = over tb₁ (offset j) (replicate 25 0)
+
   abbrev c₀ : List ℕ
   c₀ = inTable c s 0 (bytes 8 (num 8 tb (offset j)))
+
   abbrev c₁ : List ℕ
   c₁ = inTable c₀ s (offset j) (replicate 25 0)
 
@@ -81,22 +85,23 @@ module _ (c : List ℕ) (s : Shape) (w : Core c s) (j : ℕ) (xs : List ℕ) (ch
   added : Added c c₁ s j [] (chain c s) xs (own c s 0)
   unfolding stream
   added = record {
-      more = omega (arith, reused-slots);
-      inside = λ k l n. omega (arith, reused-slots);
-      range = omega (arith, reused-slots, reused-range);
-      fresh = λ i. lives-in tb j i .1 dead-j;
-      others = λ k l n. rw (table-step .bytes-is) (others k n);
-      mine = rw (table-step .bytes-is) mine;
-      size = ap (λ (d : Desc). d .size) (table-step .table-is) ∙ w .size ∙ sym (ap offset reused-slots);
-      few = rw reused-slots (w .few);
-      right = rw (table-step .table-is) (w .right);
-      frees = rw (reused-slots, table-step .bytes-is) (frees-pop tb tb₂ (slots tb) j reused-range (λ k l n. others k n) xs frees first (rw mine (omega arith)));
-      owner = ap (ownOf s) (table-step .table-is);
-      parts = parts-own c₁ s (owners c s) (own c s) (retabled (own c s) (own c s 0)) (chain c s) same-owners (table-step .parts);
-      kept = λ k i. table-step .kept k (owner-stream c s w k i);
-      from = λ b m. inl (rw (table-step .blocks-is) at m);
-      long = table-step .long;
-      rest-same = λ i n t b m. table-step .rest-same i n m }
+    more = omega (arith, reused-slots);
+    inside = λ k l n. omega (arith, reused-slots);
+    range = omega (arith, reused-slots, reused-range);
+    fresh = λ i. lives-in tb j i .1 dead-j;
+    others = λ k l n. rw (table-step .bytes-is) (others k n);
+    mine = rw (table-step .bytes-is) mine;
+    size = ap (λ (d : Desc). d .size) (table-step .table-is) ∙ w .size ∙ sym (ap offset reused-slots);
+    few = rw reused-slots (w .few);
+    right = rw (table-step .table-is) (w .right);
+    frees = rw (reused-slots, table-step .bytes-is) (frees-pop tb tb₂ (slots tb) j reused-range (λ k l n. others k n) xs frees first (rw mine (omega arith)));
+    owner = ap (ownOf s) (table-step .table-is);
+    parts = parts-own c₁ s (owners c s) (own c s) (retabled (own c s) (own c s 0)) (chain c s) same-owners (table-step .parts);
+    kept = λ k i. table-step .kept k (owner-stream c s w k i);
+    from = λ b m. inl (rw (table-step .blocks-is) at m);
+    long = table-step .long;
+    rest-same = λ i n t b m. table-step .rest-same i n m;
+  }
 
   pub reused : Described c c₁ s j [] (chain c s)
   reused = described c c₁ s w j [] (chain c s) xs (own c s 0) added

@@ -41,8 +41,9 @@ in-dec x xs = go (holds x xs) refl
 -- all of ys stand in xs too
 pub same-back : (xs ys : List ℕ) → Same xs ys → (y : ℕ) → In y ys → In y xs
 same-back xs ys s y i = elim (in-dec y xs) [
-    inl a ↦ a
-  | inr n ↦ absurd (omega (arith, s .many, distinct-le (y ∷ xs) ys (n, s .once) both)) ]
+  | inl a ↦ a
+  | inr n ↦ absurd (omega (arith, s .many, distinct-le (y ∷ xs) ys (n, s .once) both))
+]
   where
     both : (x : ℕ) → In x (y ∷ xs) → In x ys
     both x (inl e) = rw e i

@@ -30,10 +30,13 @@ node-deep c s two top a (suc e) j = rw (add-suc a e, node-deep c s two top a e (
 module _ (s : Shape) (good : Good s) (c : List ℕ) (top d d′ : ℕ) (free : List ℕ) (room : Room c s free) (sk : Skeleton c s top (height (fan s) d) d free) (less : d′ ≤ d) where
   abbrev h : ℕ
   h = height (fan s) d
+
   abbrev h′ : ℕ
   h′ = height (fan s) d′
+
   abbrev gone : List ℕ
   gone = surplus c s top d d′
+
   abbrev card : List ℕ
   card = givenBack c s gone
 
@@ -67,7 +70,7 @@ module _ (s : Shape) (good : Good s) (c : List ℕ) (top d d′ : ℕ) (free : L
   pub shorter-same : (b : ℕ) → (In b gone → ⊥) → SameIn s c card b
   shorter-same b n i p q =
       given-else s good c free gone room gone-low gone-out i (block-field s good b i (p, q))
-          (λ x k u v. let w = good .wide in n (rw (one-block s good b x i (p, q) (u, omega arith)) k))
+      (λ x k u v. let w = good .wide in n (rw (one-block s good b x i (p, q) (u, omega arith)) k))
 
   module _ (some : 1 ≤ d′) where
     top-is : loweredTop c s top d d′ ≡ node c s top (h - h′) 0
@@ -90,17 +93,19 @@ module _ (s : Shape) (good : Good s) (c : List ℕ) (top d d′ : ℕ) (free : L
     pub shorter-node : (e k j : ℕ) → e + k ≡ h′ → j < level (fan s) k d′ → node card s (loweredTop c s top d d′) e j ≡ node c s top (h - h′ + e) j
     shorter-node e k j p q =
         same-node s (two s good) c card (loweredTop c s top d d′) h′ d′ (λ e k j p q. same-slot s (two s good) c card _ _ (mod-lt j (omega (arith, two s good)))
-            (shorter-same _ (kept-stays e (suc k) (j / fan s) p (level-holds (fan s) (two s good) k d′ j q)))) e k j p q
+        (shorter-same _ (kept-stays e (suc k) (j / fan s) p (level-holds (fan s) (two s good) k d′ j q)))) e k j p q
         ∙ below e k j p q
 
     pub shorter-skeleton : Skeleton card s (loweredTop c s top d d′) h′ d′ (rising (s .count) 0 gone ++ free)
     shorter-skeleton = record {
-        low = λ e k j p q. rw (shorter-node e k j p q) (sk .low (h - h′ + e) k j (omega (arith, low-enough)) (in-old k j q));
-        apart = λ e k j e₁ k₁ j₁ p q p₁ q₁ n. sk .apart (h - h′ + e) k j (h - h′ + e₁) k₁ j₁ (omega (arith, low-enough)) (in-old k j q) (omega (arith, low-enough)) (in-old k₁ j₁ q₁)
-            (sym (shorter-node e k j p q) ∙ n ∙ shorter-node e₁ k₁ j₁ p₁ q₁);
-        out = λ e k j p q i. elim (in-either _ (rising (s .count) 0 gone) free (rw (shorter-node e k j p q) at i)) [
-            inl a ↦ stays (h - h′ + e) k j (omega (arith, low-enough)) (omega arith) q (rising-in gone (s .count) 0 _ a)
-          | inr b ↦ sk .out (h - h′ + e) k j (omega (arith, low-enough)) (in-old k j q) b ] }
+      low = λ e k j p q. rw (shorter-node e k j p q) (sk .low (h - h′ + e) k j (omega (arith, low-enough)) (in-old k j q));
+      apart = λ e k j e₁ k₁ j₁ p q p₁ q₁ n. sk .apart (h - h′ + e) k j (h - h′ + e₁) k₁ j₁ (omega (arith, low-enough)) (in-old k j q) (omega (arith, low-enough)) (in-old k₁ j₁ q₁)
+          (sym (shorter-node e k j p q) ∙ n ∙ shorter-node e₁ k₁ j₁ p₁ q₁);
+      out = λ e k j p q i. elim (in-either _ (rising (s .count) 0 gone) free (rw (shorter-node e k j p q) at i)) [
+        | inl a ↦ stays (h - h′ + e) k j (omega (arith, low-enough)) (omega arith) q (rising-in gone (s .count) 0 _ a)
+        | inr b ↦ sk .out (h - h′ + e) k j (omega (arith, low-enough)) (in-old k j q) b
+      ];
+    }
       where
         in-old : (k j : ℕ) → j < level (fan s) k d′ → j < level (fan s) k d
         in-old k j q = omega (arith, level-mono (fan s) (two s good) k d′ d less)

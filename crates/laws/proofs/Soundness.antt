@@ -42,7 +42,8 @@ is-form s t k =
     let r = is-pick (is-live t k) (is-both (is-right s d) (is-pick (is-eqb (dataOf s d) 0) (is-eqb (d .top) 0) is-yes)) (is-both (is-eqb (d .reserved) 0) (is-eqb (d .flags) 0)) in
     record {
       out = λ x. (let a = r .out x in record { alive = λ n. a .0 n .0; empty = λ n. a .0 n .1 .0; free = λ e. a .1 (λ n. n e) });
-      back = λ w. r .back (λ n. (w .alive n, (w .empty n, λ z. tt)), λ n. w .free (known n)) }
+      back = λ w. r .back (λ n. (w .alive n, (w .empty n, λ z. tt)), λ n. w .free (known n));
+    }
   where
     known : (descOf t k .top ≢ end8 → ⊥) → descOf t k .top ≡ end8
     known n = elim (ℕ-discrete (descOf t k .top) end8) [ yes e ↦ e | no u ↦ absurd (n u) ]
@@ -123,7 +124,7 @@ unfolding broken
 rules c =
     let s = shapeOf c in
     is-zero _ 0 (is-rule1 c) (is-zero _ 1 (is-rule2 c) (is-zero _ 2 (is-rule3 c) (is-zero _ 3 (is-rule4 c s) (is-zero _ 4 (is-rule5 c s)
-        (is-zero _ 5 (is-rule6 c s) (is-zero _ 6 (is-rule7 c s) (is-zero 0 7 {B = Unit} (is-rule8 c s) (λ u. tt, λ u. refl))))))))
+    (is-zero _ 5 (is-rule6 c s) (is-zero _ 6 (is-rule7 c s) (is-zero 0 7 {B = Unit} (is-rule8 c s) (λ u. tt, λ u. refl))))))))
 
 -- every owner's size is within its data blocks
 owners-fit : (c : List ℕ) (s : Shape) → Good s → Right s (table c s) → ((k : ℕ) → k < slotsOf c s → Form s (stream c s k)) → (k : ℕ) → In k (owners c s) → own c s k .size ≤ own c s k .d * s .size
@@ -146,22 +147,33 @@ sound c e =
     let r5 = r .1 .1 .1 .1 .0 in
     let r7 = r .1 .1 .1 .1 .1 .1 .0 in
     let h : Headed c = record {
-        long = r .0; values = r .1 .0; least = r3 .0 .0; most = r3 .0 .1; whole = r3 .1 .0; some = r3 .1 .1 .0; few = r3 .1 .1 .1 } in
+      long = r .0;
+      values = r .1 .0;
+      least = r3 .0 .0;
+      most = r3 .0 .1;
+      whole = r3 .1 .0;
+      some = r3 .1 .1 .0;
+      few = r3 .1 .1 .1;
+    } in
     let g = good c h in
     let n : table c s .size ≡ offset (slotsOf c s) = omega (arith, length-table c s, r4 .0, r4 .1 .0) in
     let form : (k : ℕ) → k < slotsOf c s → Form s (descOf (tableBytes c s) k) = λ k l. r5 .0 k (in-run 0 (slotsOf c s) k (omega arith) (omega arith)) in
-    record { filed = r .1 .1 .1 .1 .1 .1 .1 .0; core = record {
-      shape-is = refl;
-      headed = h;
-      size = n;
-      some = omega (arith, n, r4 .1 .0);
-      few = omega (arith, n, r4 .1 .1 .0);
-      right = r4 .1 .1 .1 .0;
-      forms = form;
-      chained = r5 .1 .0;
-      root = r5 .1 .1;
-      parts = to-parts c s g (room-long c h) (owners c s) (own c s) (owners-distinct c s) (owners-fit c s g (r4 .1 .1 .1 .0) form)
-          (rw (used-is c s) at (r7 .1)) (rw (used-is c s) at (r7 .0 .0)) (rw (used-is c s) at (r7 .0 .1)) } }
+    record {
+      filed = r .1 .1 .1 .1 .1 .1 .1 .0;
+      core = record {
+        shape-is = refl;
+        headed = h;
+        size = n;
+        some = omega (arith, n, r4 .1 .0);
+        few = omega (arith, n, r4 .1 .1 .0);
+        right = r4 .1 .1 .1 .0;
+        forms = form;
+        chained = r5 .1 .0;
+        root = r5 .1 .1;
+        parts = to-parts c s g (room-long c h) (owners c s) (own c s) (owners-distinct c s) (owners-fit c s g (r4 .1 .1 .1 .0) form)
+            (rw (used-is c s) at (r7 .1)) (rw (used-is c s) at (r7 .0 .0)) (rw (used-is c s) at (r7 .0 .1));
+      };
+    }
 
 pub whole : (c : List ℕ) → Whole c → broken c ≡ 0
 unfolding tableBlocks owners stream
@@ -175,16 +187,46 @@ whole c all =
     let mine = join (λ k. blocks c s (own c s k)) ks in
     let low : (b : ℕ) → In b mine → b < s .count = use-low c s g (room-long c h) ks (own c s) (owners-distinct c s) (chain c s) p in
     let dis : Distinct mine = use-distinct c s g (room-long c h) ks (own c s) (owners-distinct c s) (chain c s) p in
-    rules c .1
-      ( h .long
-      , (h .values
-      , (((h .least, h .most), (h .whole, (h .some, h .few)))
-      , ((omega (arith, w .size), (omega (arith, w .size, w .some), (omega (arith, w .size, w .few), (w .right,
-            ( (λ b i. low b (in-join (λ k. blocks c s (own c s k)) 0 b ks (inl refl) i))
-            , join-distinct (λ k. blocks c s (own c s k)) ks dis 0 (inl refl))))))
-      , ((λ k i. w .forms k (omega (arith, run-in 0 (slotsOf c s) k i)), (w .chained, w .root))
-      , ((rw (used-is c s) low, rw (used-is c s) dis)
-      , (((rw (used-is c s) (parts-low c s g (room-long c h) ks (own c s) (owners-distinct c s) (chain c s) p)
-          , rw (used-is c s) (parts-distinct c s g (room-long c h) ks (own c s) (owners-distinct c s) (chain c s) p))
-          , rw (used-is c s) (parts-many c s g (room-long c h) ks (own c s) (owners-distinct c s) (chain c s) p))
-      , (all .filed, tt))))))))
+    rules c .1 (
+      h .long,
+      (
+        h .values,
+        (
+          ((h .least, h .most), (h .whole, (h .some, h .few))),
+          (
+            (
+              omega (arith, w .size),
+              (
+                omega (arith, w .size, w .some),
+                (
+                  omega (arith, w .size, w .few),
+                  (
+                    w .right,
+                    (
+                      (λ b i. low b (in-join (λ k. blocks c s (own c s k)) 0 b ks (inl refl) i)),
+                      join-distinct (λ k. blocks c s (own c s k)) ks dis 0 (inl refl),
+                    ),
+                  ),
+                ),
+              ),
+            ),
+            (
+              (λ k i. w .forms k (omega (arith, run-in 0 (slotsOf c s) k i)), (w .chained, w .root)),
+              (
+                (rw (used-is c s) low, rw (used-is c s) dis),
+                (
+                  (
+                    (
+                      rw (used-is c s) (parts-low c s g (room-long c h) ks (own c s) (owners-distinct c s) (chain c s) p),
+                      rw (used-is c s) (parts-distinct c s g (room-long c h) ks (own c s) (owners-distinct c s) (chain c s) p),
+                    ),
+                    rw (used-is c s) (parts-many c s g (room-long c h) ks (own c s) (owners-distinct c s) (chain c s) p),
+                  ),
+                  (all .filed, tt),
+                ),
+              ),
+            ),
+          ),
+        ),
+      ),
+    )

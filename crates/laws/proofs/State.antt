@@ -34,6 +34,7 @@ use Rattle.layout.specs.declared.Shape.{Shape}
 -- a card's descriptors, and those that live
 abbrev pub slotsOf : List ℕ → Shape → ℕ
 slotsOf c s = slots (tableBytes c s)
+
 abbrev pub livesOf : List ℕ → Shape → List ℕ
 livesOf c s = lives (tableBytes c s)
 
@@ -92,8 +93,9 @@ pub record Whole (c : List ℕ) : Type 0 where
 
 pub whole-of : (c : List ℕ) (s : Shape) → Core c s → Filed (streamBytes c s 0) (livesOf c s) → Whole c
 whole-of c s w f = record {
-    core = subst (λ (t : Shape). Core c t) (sym (w .shape-is)) w;
-    filed = subst (λ (t : Shape). Filed (streamBytes c t 0) (livesOf c t)) (sym (w .shape-is)) f }
+  core = subst (λ (t : Shape). Core c t) (sym (w .shape-is)) w;
+  filed = subst (λ (t : Shape). Filed (streamBytes c t 0) (livesOf c t)) (sym (w .shape-is)) f;
+}
 
 -- ---- the shape
 
@@ -101,11 +103,12 @@ module _ (c : List ℕ) (h : Headed c) where
   pub good : Good (shapeOf c)
   unfolding shapeOf
   good = record {
-      field = omega arith;
-      desc = omega arith;
-      header = omega arith;
-      wide = omega (arith, pow-le-pow-right {n = 2} (omega arith) (h .least));
-      few = omega (arith, h .few) }
+    field = omega arith;
+    desc = omega arith;
+    header = omega arith;
+    wide = omega (arith, pow-le-pow-right {n = 2} (omega arith) (h .least));
+    few = omega (arith, h .few);
+  }
 
   pub room-long : shapeOf c .base + shapeOf c .count * shapeOf c .size ≤ length c
   unfolding shapeOf
@@ -133,9 +136,10 @@ length-stream c s k = length-contents c s (stream c s k .top) (dataOf s (stream 
 module _ (c : List ℕ) (s : Shape) where
   pub owners-distinct : Distinct (owners c s)
   unfolding owners
-  owners-distinct =
-      ( λ i. (let r = map-in suc 0 (livesOf c s) i in omega (arith, r .2))
-      , map-distinct suc (livesOf c s) (lives-distinct (tableBytes c s)) (λ x y i j e. omega arith))
+  owners-distinct = (
+    λ i. (let r = map-in suc 0 (livesOf c s) i in omega (arith, r .2)),
+    map-distinct suc (livesOf c s) (lives-distinct (tableBytes c s)) (λ x y i j e. omega arith),
+  )
 
   pub used-is : used c s ≡ join (λ k. blocks c s (own c s k)) (owners c s)
   unfolding used tableBlocks streamBlocks join owners
@@ -152,15 +156,16 @@ module _ (c : List ℕ) (s : Shape) (g : Good s) (long : s .base + s .count * s 
 
   pub to-parts : ((k : ℕ) → In k ks → o k .size ≤ o k .d * s .size) → length (inUse ++ chain c s) ≡ s .count → ((b : ℕ) → In b (inUse ++ chain c s) → b < s .count) → Distinct (inUse ++ chain c s) → Parts c s ks o (chain c s)
   to-parts fits n low d = record {
-      fits = fits;
-      room = chain-room c s long (omega (arith, length-append inUse (chain c s))) (λ x i. low x (in-right x inUse (chain c s) i)) (distinct-right inUse (chain c s) d);
-      bones = λ k i. skeleton s g c (o k .top) (o k .d) (chain c s)
-          (λ b m. low b (in-left b inUse (chain c s) (in-join (λ k. blocks c s (o k)) k b ks i m)))
-          (distinct-both (blocks c s (o k)) (chain c s) (join-distinct (λ k. blocks c s (o k)) ks (distinct-left inUse (chain c s) d) k i) (distinct-right inUse (chain c s) d)
-            (λ b m. distinct-apart inUse (chain c s) d b (in-join (λ k. blocks c s (o k)) k b ks i m)));
-      apart = join-apart (λ k. blocks c s (o k)) ks (distinct-left inUse (chain c s) d);
-      once = once;
-      sum = omega (arith, length-append inUse (chain c s), as-many) }
+    fits = fits;
+    room = chain-room c s long (omega (arith, length-append inUse (chain c s))) (λ x i. low x (in-right x inUse (chain c s) i)) (distinct-right inUse (chain c s) d);
+    bones = λ k i. skeleton s g c (o k .top) (o k .d) (chain c s)
+        (λ b m. low b (in-left b inUse (chain c s) (in-join (λ k. blocks c s (o k)) k b ks i m)))
+        (distinct-both (blocks c s (o k)) (chain c s) (join-distinct (λ k. blocks c s (o k)) ks (distinct-left inUse (chain c s) d) k i) (distinct-right inUse (chain c s) d)
+        (λ b m. distinct-apart inUse (chain c s) d b (in-join (λ k. blocks c s (o k)) k b ks i m)));
+    apart = join-apart (λ k. blocks c s (o k)) ks (distinct-left inUse (chain c s) d);
+    once = once;
+    sum = omega (arith, length-append inUse (chain c s), as-many);
+  }
 
   module _ (free : List ℕ) (p : Parts c s ks o free) where
     pub parts-many : length (inUse ++ free) ≡ s .count
@@ -186,5 +191,6 @@ module _ (c : List ℕ) (s : Shape) (g : Good s) (long : s .base + s .count * s 
     -- every block is in a stream or free
     pub parts-all : (b : ℕ) → b < s .count → ((k : ℕ) × (In k ks) × (In b (blocks c s (o k)))) ⊎ In b free
     parts-all b l = elim (in-either b inUse free (all-of (s .count) (inUse ++ free) parts-distinct parts-low parts-many b l)) [
-        inl a ↦ inl (join-in (λ k. blocks c s (o k)) b ks a)
-      | inr a ↦ inr a ]
+      | inl a ↦ inl (join-in (λ k. blocks c s (o k)) b ks a)
+      | inr a ↦ inr a
+    ]
