@@ -12,7 +12,7 @@ use Rattle.layout.specs.declared.answers.Sized.the-variants as sized′
 use Rattle.layout.specs.declared.answers.Listed.{Listed}
 use Rattle.layout.specs.declared.answers.Listed.the-variants as listed′
 
--- a call's numbers, and what it leaves in card and tray
+-- L118: a call's numbers, and what it leaves in card and tray
 pub record Outcome : Type 0 where
   pub number : ℕ
   pub rule : ℕ
@@ -22,9 +22,9 @@ pub record Outcome : Type 0 where
   pub card : List ℕ
   pub tray : List ℕ
 
--- ---- the ways a call ends
+-- ---- the ways a call ends (L152, L153)
 
--- refused: only the number, DAMAGED's rule, and what there was
+-- L153: refused: only the number, DAMAGED's rule, and what there was
 abbrev pub refused : ℕ → ℕ → List ℕ → List ℕ → Outcome
 refused n r c t = record { number = n; rule = r; count = 0; size = 0; length = 0; card = c; tray = t }
 
@@ -40,7 +40,7 @@ sized n c t = record { number = 0; rule = 0; count = 0; size = n; length = 0; ca
 abbrev pub listed : ℕ → ℕ → List ℕ → List ℕ → Outcome
 listed len n c t = record { number = 0; rule = 0; count = 0; size = n; length = len; card = c; tray = t }
 
--- ---- the numbers of each case
+-- ---- the numbers of each case (L138 to L147)
 
 abbrev pub numberOf : Refusal → ℕ
 numberOf (no.Damaged r) = 1

@@ -8,15 +8,15 @@ use Rattle.layout.specs.Bytes.{pick, num, over, put, end4, end8, run, ho
 use Rattle.layout.specs.Pyramid.{level, height, above, missing}
 use Rattle.layout.specs.declared.Shape.{Shape}
 
--- how many indices a redirector holds
+-- L32: how many indices a redirector holds
 abbrev pub fan : Shape → ℕ
 fan s = s .size / 4
 
--- where block b starts
+-- L21: where block b starts
 abbrev pub place : Shape → ℕ → ℕ
 place s b = s .base + b * s .size
 
--- index j of block b: where it stands, and its value
+-- L32: index j of block b: where it stands, and its value
 abbrev pub slotPlace : Shape → ℕ → ℕ → ℕ
 slotPlace s b j = place s b + 4 * j
 
@@ -30,36 +30,36 @@ unfoldable pub walk : ℕ → (ℕ → ℕ) → ℕ → List ℕ
 walk zero next b = []
 walk (suc g) next b = pick (eqb b end8) [] (b ∷ walk g next (next b))
 
--- a link has 4 bytes where the header's field has 8: all bits set in one is all bits set in the other
+-- L27: a link has 4 bytes where the header's field has 8: all bits set in one is all bits set in the other
 abbrev pub wide : ℕ → ℕ
 wide b = pick (eqb b end4) end8 b
 
 abbrev pub narrow : ℕ → ℕ
 narrow b = pick (eqb b end8) end4 b
 
--- the first free block, as the header names it
+-- L26: the first free block, as the header names it
 abbrev pub firstFree : List ℕ → Shape → ℕ
 firstFree c s = num 8 c (s .first)
 
--- the free block after b
+-- L25: the free block after b
 unfoldable pub next : List ℕ → Shape → ℕ → ℕ
 next c s b = wide (num 4 c (place s b))
 
--- the free blocks in the chain's order. One step more than there are blocks: a chain that does not end is too long
+-- L28: the free blocks in the chain's order. One step more than there are blocks: a chain that does not end is too long
 unfoldable pub chain : List ℕ → Shape → List ℕ
 chain c s = walk (s .count + 1) (next c s) (firstFree c s)
 
 -- ---- taking and giving back
 
--- the head of the chain is taken: the field names the next one, and the block is zeroed
+-- L29: the head of the chain is taken: the field names the next one, and the block is zeroed
 unfoldable pub taken : List ℕ → Shape → List ℕ
 taken c s = put 8 (over c (place s (firstFree c s)) (replicate (s .size) 0)) (s .first) (next c s (firstFree c s))
 
--- what block b holds once it is given back: the free block after it, in its first 4 bytes
+-- L30: what block b holds once it is given back: the free block after it, in its first 4 bytes
 unfoldable pub freed : List ℕ → Shape → ℕ → ℕ → List ℕ
 freed c s b after = put 4 c (place s b) (narrow after)
 
--- the blocks bs, one after the other, are put before the chain that starts at `head`
+-- L31: the blocks bs, one after the other, are put before the chain that starts at `head`
 unfoldable pub linked : List ℕ → Shape → ℕ → List ℕ → List ℕ
 linked c s head [] = put 8 c (s .first) head
 linked c s head (b ∷ bs) = linked (freed c s b head) s b bs
@@ -74,13 +74,13 @@ unfoldable pub rising : ℕ → ℕ → List ℕ → List ℕ
 rising zero b bs = []
 rising (suc n) b bs = pick (holds b bs) (b ∷ rising n (suc b) bs) (rising n (suc b) bs)
 
--- the blocks bs, sorted rising, stand before the old chain
+-- L31: the blocks bs, sorted rising, stand before the old chain
 unfoldable pub givenBack : List ℕ → Shape → List ℕ → List ℕ
 givenBack c s bs = linked c s (firstFree c s) (falling (s .count) bs)
 
 -- ---- pyramids
 
--- block number j of the level e below the top
+-- L37: block number j of the level e below the top
 unfoldable pub node : List ℕ → Shape → ℕ → ℕ → ℕ → ℕ
 node c s top zero j = top
 node c s top (suc e) j = slot c s (node c s top e (j / fan s)) (j % fan s)
@@ -94,7 +94,7 @@ pub record Cell : Type 0 where
 abbrev pub at : List ℕ → Shape → ℕ → ℕ → Cell → ℕ
 at c s top h p = node c s top (h - p .k) (p .j)
 
--- level k's blocks that d′ data blocks need
+-- L57: level k's blocks that d′ data blocks need
 unfoldable pub kept : ℕ → ℕ → ℕ → ℕ
 kept f k d′ = pick (leb k (height f d′)) (level f k d′) 0
 
@@ -106,11 +106,11 @@ unfoldable pub cells : ℕ → ℕ → ℕ → ℕ → List Cell
 cells f d d′ zero = row f d d′ zero
 cells f d d′ (suc k) = row f d d′ (suc k) ++ cells f d d′ k
 
--- the blocks that a pyramid of d data blocks has and one of d′ does not need
+-- L57: the blocks that a pyramid of d data blocks has and one of d′ does not need
 unfoldable pub surplus : List ℕ → Shape → ℕ → ℕ → ℕ → List ℕ
 surplus c s top d d′ = map (at c s top (height (fan s) d)) (cells (fan s) d d′ (height (fan s) d))
 
--- all blocks of a pyramid
+-- L39, L40: all blocks of a pyramid
 abbrev pub pyramid : List ℕ → Shape → ℕ → ℕ → List ℕ
 pyramid c s top d = surplus c s top d 0
 
@@ -120,29 +120,29 @@ pub record Grown : Type 0 where
   pub card : List ℕ
   pub top : ℕ
 
--- a block is taken, and named in slot j of block b
+-- L54: a block is taken, and named in slot j of block b
 unfoldable pub hooked : List ℕ → Shape → ℕ → ℕ → List ℕ
 hooked c s b j = put 4 (taken c s) (slotPlace s b j) (firstFree c s)
 
--- m blocks are taken, each below the one before: the first in slot j of block b, the others in slots 0
+-- L53, L54: m blocks are taken, each below the one before: the first in slot j of block b, the others in slots 0
 unfoldable pub hung : ℕ → List ℕ → Shape → ℕ → ℕ → List ℕ
 hung zero c s b j = c
 hung (suc m) c s b j = hung m (hooked c s b j) s (firstFree c s) 0
 
--- a new top is taken, with the old one in slot 0, where the height must rise
+-- L52: a new top is taken, with the old one in slot 0, where the height must rise
 unfoldable pub raised : List ℕ → Shape → ℕ → ℕ → Grown
 raised c s top d =
     pick (ltb (height (fan s) d) (height (fan s) (suc d)))
     (record { card = put 4 (taken c s) (slotPlace s (firstFree c s) 0) top; top = firstFree c s })
     (record { card = c; top = top })
 
--- data block d and what is missing above it are hung below the lowest block above it that there is
+-- L55: data block d and what is missing above it are hung below the lowest block above it that there is
 unfoldable pub rooted : List ℕ → Shape → ℕ → ℕ → ℕ → List ℕ
 rooted c s top h d =
     let m = missing (fan s) h d in
     hung m c s (node c s top (h - m) (above (fan s) m d)) (above (fan s) (m - 1) d % fan s)
 
--- data block number d is added
+-- L50, L51: data block number d is added
 unfoldable pub grownOne : List ℕ → Shape → ℕ → ℕ → Grown
 grownOne c s top zero = record { card = taken c s; top = firstFree c s }
 grownOne c s top (suc n) =
@@ -156,6 +156,6 @@ grown c s top d (suc m) = let g = grownOne c s top d in grown (g .card) s (g .to
 
 -- ---- fewer data blocks
 
--- the top of what is left when d data blocks become d′
+-- L58: the top of what is left when d data blocks become d′
 unfoldable pub loweredTop : List ℕ → Shape → ℕ → ℕ → ℕ → ℕ
 loweredTop c s top d d′ = pick (eqb d′ 0) 0 (node c s top (height (fan s) d - height (fan s) d′) 0)

@@ -21,17 +21,17 @@ allB p (x ∷ xs) = both (p x) (allB p xs)
 
 -- ---- numbers in bytes
 
--- the number in the n bytes at `at`; past the end every byte reads 0
+-- L2, L5: the number in the n bytes at `at`; past the end every byte reads 0
 unfoldable pub num : ℕ → List ℕ → ℕ → ℕ
 num zero l at = 0
 num (suc n) l at = getD l at 0 + 256 * num n l (at + 1)
 
--- a number's n lowest bytes
+-- L2: a number's n lowest bytes
 unfoldable pub bytes : ℕ → ℕ → List ℕ
 bytes zero v = []
 bytes (suc n) v = v % 256 ∷ bytes n (v / 256)
 
--- all bits set, in 4 bytes and in 8
+-- L3: all bits set, in 4 bytes and in 8
 abbrev pub end4 : ℕ
 end4 = 0xffff_ffff
 
@@ -40,12 +40,12 @@ end8 = 0xffff_ffff_ffff_ffff
 
 -- ---- runs of bytes
 
--- l with the bytes vs from `at` on; nothing goes past its end
+-- L5: l with the bytes vs from `at` on; nothing goes past its end
 unfoldable pub over : List ℕ → ℕ → List ℕ → List ℕ
 over l at [] = l
 over l at (v ∷ vs) = over (set l at v) (at + 1) vs
 
--- l with the number v in the n bytes at `at`
+-- L2: l with the number v in the n bytes at `at`
 unfoldable pub put : ℕ → List ℕ → ℕ → ℕ → List ℕ
 put n l at v = over l at (bytes n v)
 
@@ -54,7 +54,7 @@ unfoldable pub matches : List ℕ → ℕ → List ℕ → Bool
 matches l at [] = true
 matches l at (v ∷ vs) = both (eqb (getD l at 0) v) (matches l (at + 1) vs)
 
--- the same bytes
+-- L6: the same bytes
 unfoldable pub same : List ℕ → List ℕ → Bool
 same [] [] = true
 same [] (y ∷ ys) = false

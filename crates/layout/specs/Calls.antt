@@ -20,12 +20,12 @@ use Rattle.layout.specs.declared.Shape.{Shape}
 abbrev pub Test : Type 0
 Test = Bool × ℕ
 
--- the first number of a list of tests whose test is true; 0 where none is
+-- L149: the first number of a list of tests whose test is true; 0 where none is
 unfoldable pub firstNo : List Test → ℕ
 firstNo [] = 0
 firstNo ((b, n) ∷ more) = pick b n (firstNo more)
 
--- a refusal where there is one, else what the call does
+-- L118, L153: a refusal where there is one, else what the call does
 abbrev pub unless : List Test → List ℕ → List ℕ → Outcome → Outcome
 unless tests c t o = pick (eqb (firstNo tests) 0) o (refused (firstNo tests) (pick (eqb (firstNo tests) 1) (broken c) 0) c t)
 
@@ -49,7 +49,7 @@ sizeOf c k = stream c (shapeOf c) k .size
 abbrev pub freeBlocks : List ℕ → ℕ
 freeBlocks c = length (chain c (shapeOf c))
 
--- ---- the situations
+-- ---- the situations (L139 to L147; which call asks which, and in what order: L148)
 
 abbrev pub damaged : List ℕ → Test
 damaged c = (not (eqb (broken c) 0), 1)
@@ -82,7 +82,7 @@ unfoldable pub linksFrom : ℕ → ℕ → Shape → List ℕ → List ℕ
 linksFrom zero b s c = c
 linksFrom (suc n) b s c = linksFrom n (b + 1) s (put 4 c (place s b) (pick (eqb (b + 1) (s .count)) end4 (b + 1)))
 
--- zeros, the header, the chain from block 1 on, and in block 0 a table without a free descriptor and with the root's, all zero
+-- L119 to L121: zeros, the header, the chain from block 1 on, and in block 0 a table without a free descriptor and with the root's, all zero
 unfoldable pub formatted : ℕ → ℕ → List ℕ
 formatted len shift =
     let s = shaped len shift in
@@ -93,15 +93,19 @@ format c shift = pick (goodShape (length c) shift) (done (formatted (length c) s
 
 -- ---- the calls that leave the card
 
+-- L122
 unfoldable pub check : List ℕ → Outcome
 check c = unless (damaged c ∷ []) c [] (done c [])
 
+-- L123
 unfoldable pub room : List ℕ → Outcome
 room c = unless (damaged c ∷ []) c [] (counted (freeBlocks c) c [])
 
+-- L136
 unfoldable pub size : List ℕ → List ℕ → Outcome
 size c name = unless (damaged c ∷ badName name ∷ notKnown c name ∷ []) c [] (sized (sizeOf c (indexOf c name)) c [])
 
+-- L130
 unfoldable pub read : List ℕ → List ℕ → ℕ → List ℕ → Outcome
 read c name p tray =
     let k = indexOf c name in
@@ -109,6 +113,7 @@ read c name p tray =
     unless (damaged c ∷ badName name ∷ notKnown c name ∷ pastTheEnd (sizeOf c k) p ∷ []) c tray
     (counted (length got) c (over tray 0 got))
 
+-- L137
 unfoldable pub list : List ℕ → ℕ → List ℕ → Outcome
 list c k tray =
     let e = getD (rootOf c) k nothing in
@@ -117,11 +122,11 @@ list c k tray =
 
 -- ---- write and truncate
 
--- a stream's size once the bytes vs are written from place p on
+-- L127: a stream's size once the bytes vs are written from place p on
 abbrev pub sizeAfter : List ℕ → ℕ → ℕ → List ℕ → ℕ
 sizeAfter c k p vs = max (sizeOf c k) (p + length vs)
 
--- the bytes vs go into stream k from place p on, which is lengthened where it must be
+-- L127 to L129: the bytes vs go into stream k from place p on, which is lengthened where it must be
 unfoldable pub written : List ℕ → ℕ → ℕ → List ℕ → List ℕ
 written c k p vs =
     let s = shapeOf c in
@@ -135,6 +140,7 @@ write c name p vs =
     unless (damaged c ∷ badName name ∷ notKnown c name ∷ pastTheEnd (sizeOf c k) p ∷ noRoom c wanted ∷ []) c []
     (counted (length vs) (written c k p vs) [])
 
+-- L131
 unfoldable pub truncate : List ℕ → List ℕ → ℕ → Outcome
 truncate c name n =
     let k = indexOf c name in
@@ -143,15 +149,15 @@ truncate c name n =
 
 -- ---- create and delete
 
--- whether a free descriptor is there
+-- L124: whether a free descriptor is there
 abbrev pub reuse : List ℕ → Bool
 reuse t = not (eqb (firstDesc t) end8)
 
--- the descriptor that is taken: the first free one, or one more at the table's end
+-- L124, L125: the descriptor that is taken: the first free one, or one more at the table's end
 abbrev pub newIndex : List ℕ → ℕ
 newIndex t = pick (reuse t) ((firstDesc t - 8) / 25) (slots t)
 
--- that descriptor, off the chain or added, and all zero
+-- L124, L125: that descriptor, off the chain or added, and all zero
 unfoldable pub described : List ℕ → Shape → List ℕ
 described c s =
     let t = tableBytes c s in
@@ -163,7 +169,7 @@ described c s =
 abbrev pub rootWith : List ℕ → List ℕ → List ℕ
 rootWith c name = withEntry (streamBytes c (shapeOf c) 0) (newIndex (tableBytes c (shapeOf c))) name
 
--- the blocks that a create takes: the table's, where no descriptor is free, and the root's
+-- L126, L150: the blocks that a create takes: the table's, where no descriptor is free, and the root's
 abbrev pub createWants : List ℕ → List ℕ → ℕ
 createWants c name =
     let s = shapeOf c in
@@ -177,12 +183,13 @@ create c name =
     unless (damaged c ∷ badName name ∷ alreadyKnown c name ∷ streamsFull c ∷ noRoom c (createWants c name) ∷ []) c []
     (done (created c name) [])
 
--- stream k's blocks are given back, and its descriptor goes first on the descriptors' chain
+-- L132, L133: stream k's blocks are given back, and its descriptor goes first on the descriptors' chain
 unfoldable pub undescribed : List ℕ → Shape → ℕ → List ℕ
 undescribed c s k =
     let freeFields = bytes 8 (firstDesc (tableBytes c s)) ++ bytes 8 end8 in
     inTable (inTable (shortened c s k 0) s (offset k) freeFields) s 0 (bytes 8 (offset k))
 
+-- L134, L135
 unfoldable pub deleted : List ℕ → Entry → List ℕ
 deleted c e =
     let s = shapeOf c in

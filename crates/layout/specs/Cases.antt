@@ -1,4 +1,4 @@
--- The worked cases C1 to C12 of the layout page as one list: the case's number, and a test that the definitions must pass.
+-- The worked cases C1 to C12 of the layout page (L158) as one list: the case's number, and a test that the definitions must pass.
 -- From 13 on they are our own, for what the twelve do not tell apart: the sorting of freed blocks, and the order of the rules.
 use mathlib.Core.Bool.{Bool, true, false}
 use Prim.Native.Nat.{ℕ, _+_}

@@ -11,7 +11,7 @@ use Rattle.layout.specs.declared.Shape.{Shape}
 
 -- ---- entries
 
--- an entry, and where it starts
+-- L70: an entry, and where it starts
 pub record Entry : Type 0 where
   pub index : ℕ
   pub name : List ℕ
@@ -27,17 +27,17 @@ unfoldable pub entriesFrom : ℕ → List ℕ → ℕ → List Entry
 entriesFrom zero r at = []
 entriesFrom (suc g) r at = pick (leb (length r) at) [] (entryAt r at ∷ entriesFrom g r (at + 6 + nameLength r at))
 
--- the entries of a directory's bytes
+-- L71: the entries of a directory's bytes
 unfoldable pub entries : List ℕ → List Entry
 entries r = entriesFrom (length r) r 0
 
--- an entry as it is written
+-- L70: an entry as it is written
 unfoldable pub entryBytes : ℕ → List ℕ → List ℕ
 entryBytes k name = bytes 4 k ++ bytes 2 (length name) ++ name
 
 -- ---- what a good directory is
 
--- 1 to 64 bytes, none of them the slash
+-- L72: 1 to 64 bytes, none of them the slash
 unfoldable pub goodName : List ℕ → Bool
 goodName name = both (leb 1 (length name)) (both (leb (length name) longestName) (not (holds slash name)))
 
@@ -47,25 +47,27 @@ readsFrom (suc g) r at =
     pick (leb (length r) at) (eqb (length r) at)
     (both (leb (at + 6 + nameLength r at) (length r)) (readsFrom g r (at + 6 + nameLength r at)))
 
--- entry by entry to the very end
+-- L71: entry by entry to the very end
 unfoldable pub reads : List ℕ → Bool
 reads r = readsFrom (length r) r 0
 
--- where a name is: its entry's number, or how many entries there are
+-- L73: where a name is: its entry's number, or how many entries there are
 unfoldable pub lookIn : List Entry → List ℕ → ℕ
 lookIn [] name = 0
 lookIn (e ∷ es) name = pick (same (e .name) name) 0 (suc (lookIn es name))
 
--- no name stands twice
+-- L108: no name stands twice
 unfoldable pub distinctNames : List Entry → Bool
 distinctNames [] = true
 distinctNames (e ∷ es) = both (eqb (lookIn es (e .name)) (length es)) (distinctNames es)
 
+-- L106 to L108
 unfoldable pub goodDirectory : List ℕ → Bool
 goodDirectory r = both (reads r) (both (allB (λ e. goodName (e .name)) (entries r)) (distinctNames (entries r)))
 
 -- ---- a directory is a stream
 
+-- L69
 unfoldable pub entriesOf : List ℕ → Shape → ℕ → List Entry
 entriesOf c s k = entries (streamBytes c s k)
 
@@ -73,7 +75,7 @@ entriesOf c s k = entries (streamBytes c s k)
 abbrev pub nothing : Entry
 nothing = record { index = 0; name = []; at = 0 }
 
--- a directory's bytes with an entry more, and without one
+-- L74, L75: a directory's bytes with an entry more, and without one
 unfoldable pub withEntry : List ℕ → ℕ → List ℕ → List ℕ
 withEntry r k name = r ++ entryBytes k name
 

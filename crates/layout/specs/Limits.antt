@@ -1,4 +1,4 @@
--- The limits, by name, each once.
+-- The limits, by name, each once (L23).
 use Prim.Native.Nat.{ℕ}
 
 -- a block has 2 ^ s bytes, s from the least shift to the most

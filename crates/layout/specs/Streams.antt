@@ -11,7 +11,7 @@ use Rattle.layout.specs.declared.Shape.{Shape}
 
 -- ---- descriptors
 
--- a descriptor's fields
+-- L42: a descriptor's fields
 pub record Desc : Type 0 where
   pub size : ℕ
   pub top : ℕ
@@ -22,15 +22,15 @@ pub record Desc : Type 0 where
 unfoldable pub descIn : List ℕ → ℕ → Desc
 descIn l at = record { size = num 8 l at; top = num 8 l (at + 8); reserved = num 8 l (at + 16); flags = getD l (at + 24) 0 }
 
--- d, a stream's data blocks: what it has reserved
+-- L43: d, a stream's data blocks: what it has reserved
 abbrev pub dataOf : Shape → Desc → ℕ
 dataOf s t = t .reserved / s .size
 
--- the data blocks that n bytes want
+-- L44: the data blocks that n bytes want
 abbrev pub dataFor : Shape → ℕ → ℕ
 dataFor s n = up (s .size) n
 
--- the first three fields, as they are written
+-- L49: the first three fields, as they are written
 abbrev pub fields : Shape → ℕ → ℕ → ℕ → List ℕ
 fields s size top d = bytes 8 size ++ bytes 8 top ++ bytes 8 (d * s .size)
 
@@ -39,15 +39,15 @@ fields s size top d = bytes 8 size ++ bytes 8 top ++ bytes 8 (d * s .size)
 abbrev pub tall : Shape → ℕ → ℕ
 tall s d = height (fan s) d
 
--- where byte p stands, in a pyramid of height h
+-- L46: where byte p stands, in a pyramid of height h
 abbrev pub spot : List ℕ → Shape → ℕ → ℕ → ℕ → ℕ
 spot c s top h p = place s (node c s top h (p / s .size)) + p % s .size
 
--- the first `size` bytes
+-- L47: the first `size` bytes
 unfoldable pub contents : List ℕ → Shape → ℕ → ℕ → ℕ → List ℕ
 contents c s top d size = map (λ p. getD c (spot c s top (tall s d) p) 0) (run 0 size)
 
--- the first n of the bytes vs go in from place p on, each where it stands in the card as it was
+-- L48: the first n of the bytes vs go in from place p on, each where it stands in the card as it was
 unfoldable pub laidTo : ℕ → List ℕ → Shape → ℕ → ℕ → ℕ → List ℕ → List ℕ
 laidTo zero c s top h p vs = c
 laidTo (suc n) c s top h p vs = set (laidTo n c s top h p vs) (spot c s top h (p + n)) (getD vs n 0)
@@ -57,14 +57,14 @@ laid c s top h p vs = laidTo (length vs) c s top h p vs
 
 -- ---- the table: 8 bytes that name the first free descriptor, then the descriptors
 
--- the table's own descriptor, in the header
+-- L61: the table's own descriptor, in the header
 unfoldable pub table : List ℕ → Shape → Desc
 table c s = descIn c (s .table)
 
 unfoldable pub tableBytes : List ℕ → Shape → List ℕ
 tableBytes c s = contents c s (table c s .top) (dataOf s (table c s)) (table c s .size)
 
--- where descriptor k stands in the table
+-- L63: where descriptor k stands in the table
 abbrev pub offset : ℕ → ℕ
 offset k = 8 + 25 * k
 
@@ -75,7 +75,7 @@ slots t = (length t - 8) / 25
 unfoldable pub descOf : List ℕ → ℕ → Desc
 descOf t k = descIn t (offset k)
 
--- a descriptor whose top has all bits set is free
+-- L64: a descriptor whose top has all bits set is free
 unfoldable pub dead : List ℕ → ℕ → Bool
 dead t k = eqb (descOf t k .top) end8
 
@@ -89,11 +89,11 @@ lives t = those (live t) (run 0 (slots t))
 unfoldable pub frees : List ℕ → List ℕ
 frees t = map offset (those (dead t) (run 0 (slots t)))
 
--- the offset of the first free descriptor
+-- L62: the offset of the first free descriptor
 abbrev pub firstDesc : List ℕ → ℕ
 firstDesc t = num 8 t 0
 
--- the free descriptors' offsets along their chain; one step more than there are descriptors
+-- L67: the free descriptors' offsets along their chain; one step more than there are descriptors
 unfoldable pub descChain : List ℕ → List ℕ
 descChain t = walk (slots t + 1) (num 8 t) (firstDesc t)
 
@@ -121,25 +121,25 @@ streamBytes c s k = contents c s (stream c s k .top) (dataOf s (stream c s k)) (
 unfoldable pub inStream : List ℕ → Shape → ℕ → ℕ → List ℕ → List ℕ
 inStream c s k p vs = laid c s (stream c s k .top) (tall s (dataOf s (stream c s k))) p vs
 
--- the data blocks that a stream has once it holds n bytes: those that it had are kept
+-- L56: the data blocks that a stream has once it holds n bytes: those that it had are kept
 abbrev pub dataAt : Shape → Desc → ℕ → ℕ
 dataAt s t n = max (dataOf s t) (dataFor s n)
 
--- the blocks that a stream takes to hold n bytes: P after less P before
+-- L56, L150: the blocks that a stream takes to hold n bytes: P after less P before
 abbrev pub wants : Shape → Desc → ℕ → ℕ
 wants s t n = P (fan s) (dataAt s t n) - P (fan s) (dataOf s t)
 
 abbrev pub grownFor : List ℕ → Shape → Desc → ℕ → Grown
 grownFor c s t n = grown c s (t .top) (dataOf s t) (dataAt s t n - dataOf s t)
 
--- stream k, n bytes long, at least as long as before
+-- L56: stream k, n bytes long, at least as long as before
 unfoldable pub lengthened : List ℕ → Shape → ℕ → ℕ → List ℕ
 lengthened c s k n =
     let t = stream c s k in
     let g = grownFor c s t n in
     descSet (g .card) s k n (g .top) (dataAt s t n)
 
--- the table, one descriptor longer
+-- L68: the table, one descriptor longer
 unfoldable pub tableLengthened : List ℕ → Shape → List ℕ
 tableLengthened c s =
     let t = table c s in
@@ -147,7 +147,7 @@ tableLengthened c s =
     let g = grownFor c s t n in
     tableSet (g .card) s n (g .top) (dataAt s t n)
 
--- stream k, its first n bytes: what it no longer needs is given back
+-- L59: stream k, its first n bytes: what it no longer needs is given back
 unfoldable pub shortened : List ℕ → Shape → ℕ → ℕ → List ℕ
 shortened c s k n =
     let t = stream c s k in
