@@ -1,16 +1,16 @@
 -- One more live descriptor, of a stream with no bytes: the card keeps rules 1 to 7, and every stream is as it was.
-use mathlib.Core.Path.{_≡_, refl, sym, ap, _∙_}
+use mathlib.Core.Path.{_≡_, refl, ap, _∙_}
 use mathlib.Core.Logic.{_≢_, _⊎_, inl, inr}
 use mathlib.Core.List.{List, [], _∷_}
-use Prim.Native.Nat.{ℕ, zero, suc, _+_, _*_, _/_, _≤_, _<_}
+use Prim.Native.Nat.{ℕ, zero, suc, _≤_, _<_}
 use native.Mathlib.Nat.{zero-div}
 use native.Mathlib.Decide.{ℕ-discrete}
 use native.Mathlib.Omega.{arith}
 use lib.ListN.{length, getD}
 use Rattle.layout.specs.Limits.{mostStreams}
-use Rattle.layout.specs.Bytes.{end8, run}
+use Rattle.layout.specs.Bytes.{run}
 use Rattle.layout.specs.Blocks.{chain}
-use Rattle.layout.specs.Streams.{Desc, dataOf, contents, table, tableBytes, offset, slots, descOf, stream, streamBytes, tableBlocks, streamBlocks}
+use Rattle.layout.specs.Streams.{Desc, contents, table, tableBytes, offset, stream, streamBytes, tableBlocks, streamBlocks}
 use Rattle.laws.proofs.Lists.{In, in-map, map-in}
 use Rattle.laws.proofs.Levels.{up-zero}
 use Rattle.laws.proofs.Chain.{Good, room-chain}

@@ -1,13 +1,11 @@
 -- A pyramid's blocks from its skeleton, and a skeleton on another card.
-use mathlib.Core.Path.{_≡_, refl, sym, ap, ap₂, _∙_}
-use mathlib.Core.Logic.{_≢_, _⊎_, inl, inr}
-use mathlib.Core.List.{List, [], _∷_, _++_, map}
-use Prim.Native.Nat.{ℕ, zero, suc, _+_, _-_, _*_, _/_, _%_, _≤_, _<_}
+use mathlib.Core.Path.{_≡_, sym, _∙_}
+use mathlib.Core.List.{List}
+use Prim.Native.Nat.{ℕ, _+_, _-_, _≤_, _<_}
 use native.Mathlib.Omega.{arith}
-use lib.ListN.{length, getD}
 use Rattle.laws.proofs.Lists.{In, Distinct, map-agree, map-distinct}
 use Rattle.layout.specs.Pyramid.{level, height}
-use Rattle.layout.specs.Blocks.{fan, node, Cell, at, cells, surplus, pyramid}
+use Rattle.layout.specs.Blocks.{fan, node, at, cells, surplus, pyramid}
 use Rattle.laws.proofs.Frame.{SameIn, in-pyramid, pyramid-in, frame-node}
 use Rattle.laws.proofs.Cells.{cells-in, cells-distinct, level-none}
 use Rattle.laws.proofs.Growth.{Skeleton}

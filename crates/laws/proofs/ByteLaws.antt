@@ -1,14 +1,12 @@
 -- Reads after writes.
-use mathlib.Core.Path.{_≡_, refl, sym, ap, _∙_}
-use mathlib.Core.Logic.{_≢_}
-use mathlib.Core.Bool.{Bool, true, false}
-use mathlib.Core.List.{List, [], _∷_, _++_, map}
+use mathlib.Core.Path.{_≡_, refl, ap, _∙_}
+use mathlib.Core.List.{List, [], _∷_, _++_}
 use Prim.Native.Nat.{ℕ, zero, suc, _+_, _-_, _*_, _/_, _%_, _^_, _≤_, _<_}
-use native.Mathlib.Nat.{add-zero, zero-add, add-assoc, add-comm, pow-zero, pow-succ', mod-lt, div-add-mod, div-lt-iff-lt-mul, mul-comm, mul-add-div, mul-add-mod-self-left, mod-eq-of-lt, div-eq-of-lt}
+use native.Mathlib.Nat.{add-zero, zero-add, add-assoc, add-comm, pow-zero, pow-succ', div-add-mod, div-lt-iff-lt-mul}
 use native.Mathlib.Numerals.{add-one}
 use native.Mathlib.Omega.{arith}
-use lib.ListN.{length, getD, set, take, drop, replicate, length-set}
-use lib.Seq.{getD-set-same, getD-set-other, ext-getD}
+use lib.ListN.{length, getD, set, take, length-set, length-take}
+use lib.Seq.{getD-set-same, getD-set-other, ext-getD, getD-take}
 use Rattle.layout.specs.Bytes.{num, bytes, over, put}
 
 pub length-over : (l : List ℕ) (at : ℕ) (vs : List ℕ) → length (over l at vs) ≡ length l
@@ -95,3 +93,17 @@ pub num-lt : (n : ℕ) (l : List ℕ) (p : ℕ) → ((i : ℕ) → getD l i 0 < 
 unfolding num
 num-lt zero l p small = rw pow-zero (omega arith)
 num-lt (suc n) l p small = rw pow-succ' (omega (arith, small p, num-lt n l (p + 1) small))
+
+-- one run after the other
+pub over-append : (l : List ℕ) (at : ℕ) (xs ys : List ℕ) → over l at (xs ++ ys) ≡ over (over l at xs) (at + length xs) ys
+unfolding over
+over-append l at [] ys = rw add-zero
+over-append l at (x ∷ xs) ys =
+    let e : at + 1 + length xs ≡ at + suc (length xs) = omega arith in
+    over-append (set l at x) (at + 1) xs ys ∙ rw e
+
+-- what was laid at the start is what stands there
+pub take-over : (l xs : List ℕ) (n : ℕ) → n ≡ length xs → n ≤ length l → take n (over l 0 xs) ≡ xs
+take-over l xs n e h = ext-getD 0 _ _ (rw (length-take, length-over) (omega arith)) (λ i b.
+    let b′ : i < n = omega (arith, rw (length-take, length-over) at b) in
+    getD-take n (over l 0 xs) i 0 b′ ∙ over-in l 0 xs i i (omega arith) (omega arith) (omega arith))

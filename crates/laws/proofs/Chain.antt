@@ -1,16 +1,13 @@
 -- The free chain as a list, and what taking its head does.
-use mathlib.Core.Path.{_≡_, refl, sym, ap, ap₂, _∙_}
-use mathlib.Core.Logic.{_≢_, _⊎_, inl, inr}
-use mathlib.Core.Bool.{Bool, true, false}
-use mathlib.Core.List.{List, [], _∷_, _++_, map}
-use Prim.Native.Nat.{ℕ, zero, suc, _+_, _-_, _*_, _/_, _%_, _^_, _≤_, _<_}
-use native.Mathlib.Nat.{mul-le-mul-right, suc-mul}
-use native.Mathlib.Decide.{ℕ-discrete, decLt}
+use mathlib.Core.Path.{_≡_, refl, _∙_}
+use mathlib.Core.Logic.{_≢_, inl, inr}
+use mathlib.Core.List.{List, [], _∷_}
+use Prim.Native.Nat.{ℕ, _+_, _-_, _*_, _^_, _≤_, _<_}
+use native.Mathlib.Nat.{mul-le-mul-right}
+use native.Mathlib.Decide.{decLt}
 use native.Mathlib.Omega.{arith}
 use lib.ListN.{length, getD, replicate, length-replicate, getD-replicate}
-use lib.Dec.{leb, ltb, eqb}
-use Rattle.layout.specs.Bytes.{pick, num, put, over, end4, end8}
-use Rattle.laws.proofs.Picks.{eqb-yes, eqb-no}
+use Rattle.layout.specs.Bytes.{put, over, end4}
 use Rattle.laws.proofs.ByteLaws.{length-over, length-put, over-out, over-in, put-out, num-agree, num-put, num-put-same}
 use Rattle.laws.proofs.Lists.{In, Distinct}
 use Rattle.layout.specs.Blocks.{fan, place, slotPlace, slot, firstFree, next, chain, taken}

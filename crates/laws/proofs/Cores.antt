@@ -1,8 +1,8 @@
 -- A card that keeps rules 1 to 7: small facts of it, and how such a card is made of another.
-use mathlib.Core.Path.{_≡_, refl, sym, ap, _∙_}
-use mathlib.Core.Logic.{_≢_, _⊎_, inl, inr}
-use mathlib.Core.List.{List, [], _∷_, map}
-use Prim.Native.Nat.{ℕ, zero, suc, _+_, _-_, _*_, _/_, _^_, _≤_, _<_}
+use mathlib.Core.Path.{_≡_, refl, ap, _∙_}
+use mathlib.Core.Logic.{_≢_, inl, inr}
+use mathlib.Core.List.{List}
+use Prim.Native.Nat.{ℕ, suc, _-_, _*_, _^_, _≤_, _<_}
 use native.Mathlib.Nat.{pow-le-pow-right, mul-le-mul}
 use native.Mathlib.Decide.{decLt}
 use native.Mathlib.Omega.{arith}
@@ -10,8 +10,7 @@ use lib.ListN.{length, getD}
 use Rattle.layout.specs.Limits.{mostBlocks, mostStreams}
 use Rattle.layout.specs.Bytes.{end8}
 use Rattle.layout.specs.Pyramid.{P}
-use Rattle.layout.specs.Blocks.{fan, chain}
-use Rattle.layout.specs.Streams.{Desc, dataOf, table, tableBytes, offset, slots, descChain, stream}
+use Rattle.layout.specs.Streams.{table, tableBytes, offset, descChain, stream}
 use Rattle.layout.specs.Header.{shapeOf}
 use Rattle.laws.proofs.Lists.{In, in-map, map-in}
 use Rattle.laws.proofs.Levels.{P-low, P-high}

@@ -1,14 +1,14 @@
 -- Descriptors in bytes: read after the bytes, or a part of them, were written.
-use mathlib.Core.Path.{_≡_, refl, sym, ap, _∙_}
-use mathlib.Core.Logic.{_≢_, _⊎_, inl, inr}
-use mathlib.Core.List.{List, [], _∷_, _++_, append-assoc, append-nil}
+use mathlib.Core.Path.{_≡_, refl, _∙_}
+use mathlib.Core.Logic.{_⊎_, inl, inr}
+use mathlib.Core.List.{List, [], _++_, append-assoc, append-nil}
 use Prim.Native.Nat.{ℕ, zero, suc, _+_, _-_, _*_, _^_, _≤_, _<_}
 use native.Mathlib.Omega.{arith}
-use lib.ListN.{length, getD, replicate, length-append, length-replicate, getD-replicate, List·getD-append}
+use lib.ListN.{length, getD, replicate, length-append, getD-replicate, List·getD-append}
 use lib.Seq.{getD-append-add}
 use Rattle.layout.specs.Bytes.{num, bytes, over}
 use Rattle.layout.specs.Streams.{Desc, descIn, fields}
-use Rattle.laws.proofs.ByteLaws.{num-agree, num-at, num-over, over-in, over-out, length-bytes, length-over}
+use Rattle.laws.proofs.ByteLaws.{num-agree, num-at, num-over, over-in, over-out, length-bytes}
 use Rattle.layout.specs.declared.Shape.{Shape}
 
 -- the same bytes, the same descriptor

@@ -1,8 +1,8 @@
 -- One stream changed, with its descriptor: the card keeps rules 1 to 7, and no other stream changes.
 use mathlib.Core.Path.{_≡_, refl, sym, ap, _∙_, subst}
 use mathlib.Core.Logic.{_≢_, _⊎_, inl, inr}
-use mathlib.Core.Bool.{Bool, true, false, not}
-use mathlib.Core.List.{List, [], _∷_, _++_}
+use mathlib.Core.Bool.{not}
+use mathlib.Core.List.{List, _++_}
 use Prim.Native.Nat.{ℕ, zero, suc, _+_, _-_, _*_, _/_, _%_, _^_, _≤_, _<_}
 use native.Mathlib.Nat.{mod-lt, div-lt-iff-lt-mul}
 use native.Mathlib.Decide.{ℕ-discrete, decLt}
@@ -12,7 +12,7 @@ use lib.Dec.{eqb}
 use Rattle.layout.specs.Bytes.{pick, over, end8}
 use Rattle.layout.specs.Pyramid.{level}
 use Rattle.layout.specs.Blocks.{fan, node, chain}
-use Rattle.layout.specs.Streams.{Desc, dataOf, dataFor, fields, spot, tall, table, tableBytes, offset, slots, descOf, lives, dead, live, firstDesc, descChain, inTable, descSet, stream, streamBytes, tableBlocks, streamBlocks}
+use Rattle.layout.specs.Streams.{Desc, dataOf, dataFor, fields, spot, tall, table, tableBytes, offset, slots, descOf, lives, dead, live, firstDesc, descChain, descSet, stream, streamBytes, tableBlocks, streamBlocks}
 use Rattle.laws.proofs.Picks.{eqb-yes, eqb-no, is-true}
 use Rattle.laws.proofs.ByteLaws.{num-over, length-over}
 use Rattle.laws.proofs.Lists.{In, in-left, in-right, run-in}
@@ -24,11 +24,11 @@ use Rattle.laws.proofs.Hanging.{NotField, Beyond, header-beyond, two}
 use Rattle.laws.proofs.Growth.{Skeleton}
 use Rattle.laws.proofs.Others.{Kept}
 use Rattle.laws.proofs.Descs.{length-fields, desc-put, desc-away}
-use Rattle.laws.proofs.Lives.{is-live, lives-in, in-lives, those-agree}
+use Rattle.laws.proofs.Lives.{is-live, lives-in, those-agree}
 use Rattle.laws.proofs.Frees.{frees-keep}
 use Rattle.laws.proofs.Parts.{Own, ownOf, blocks, text, cost, Parts, Step, step-parts, step-keeps, step-spot, parts-own}
-use Rattle.laws.proofs.State.{slotsOf, livesOf, own, owners, Right, Form, Core, right-fits}
-use Rattle.laws.proofs.Cores.{P-has, core-good, count-few, count-some, small-reserved, length-core, core-frees, owner-table, owner-stream, owner-in, core-of}
+use Rattle.laws.proofs.State.{slotsOf, livesOf, own, owners, Form, Core, right-fits}
+use Rattle.laws.proofs.Cores.{P-has, core-good, count-few, count-some, small-reserved, length-core, core-frees, owner-table, owner-stream, core-of}
 use Rattle.laws.proofs.InTable.{tableSpot, table-agree, InTable, in-table, in-table-else}
 use Rattle.layout.specs.declared.Shape.{Shape}
 

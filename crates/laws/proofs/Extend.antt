@@ -1,17 +1,17 @@
 -- The table is lengthened by one descriptor, which is zeroed.
 use mathlib.Core.Path.{_≡_, refl, sym, ap, _∙_}
 use mathlib.Core.Logic.{_≢_, _⊎_, inl, inr}
-use mathlib.Core.List.{List, [], _∷_, _++_}
-use Prim.Native.Nat.{ℕ, zero, suc, _+_, _-_, _*_, _/_, _%_, _^_, _≤_, _<_, max}
+use mathlib.Core.List.{List, [], _++_}
+use Prim.Native.Nat.{ℕ, zero, suc, _+_, _-_, _*_, _/_, _%_, _≤_, _<_}
 use native.Mathlib.Nat.{mod-lt, div-lt-iff-lt-mul}
 use native.Mathlib.Decide.{ℕ-discrete}
 use native.Mathlib.Omega.{arith}
 use lib.ListN.{length, getD, take, drop, replicate, length-take, take-append-drop}
 use Rattle.layout.specs.Limits.{mostStreams}
-use Rattle.layout.specs.Bytes.{num, over, end8}
-use Rattle.layout.specs.Pyramid.{level, height, P}
+use Rattle.layout.specs.Bytes.{over, end8}
+use Rattle.layout.specs.Pyramid.{P}
 use Rattle.layout.specs.Blocks.{fan, node, firstFree, next, chain, Grown, grown}
-use Rattle.layout.specs.Streams.{Desc, descIn, dataOf, dataFor, dataAt, fields, spot, tall, contents, table, tableBytes, offset, slots, descOf, firstDesc, descChain, inTable, tableSet, tableLengthened, stream, tableBlocks}
+use Rattle.layout.specs.Streams.{Desc, dataOf, dataFor, dataAt, fields, spot, tall, table, tableBytes, offset, descOf, firstDesc, descChain, inTable, tableSet, tableLengthened, stream, tableBlocks}
 use Rattle.laws.proofs.ByteLaws.{num-agree, num-over, over-out, length-over}
 use Rattle.laws.proofs.Lists.{In}
 use Rattle.laws.proofs.Joins.{total-has}
@@ -28,9 +28,9 @@ use Rattle.laws.proofs.Descs.{desc-agree, desc-away, desc-put, length-f
 use Rattle.laws.proofs.Lives.{lives-in}
 use Rattle.laws.proofs.Frees.{Frees}
 use Rattle.laws.proofs.Parts.{Own, ownOf, blocks, text, cost, Parts, Step, step-parts, step-keeps, grow, grow-longer}
-use Rattle.laws.proofs.State.{slotsOf, livesOf, own, owners, Right, Core, length-table, right-fits}
+use Rattle.laws.proofs.State.{slotsOf, livesOf, own, owners, Core, length-table, right-fits}
 use Rattle.laws.proofs.Heads.{NotTable}
-use Rattle.laws.proofs.Cores.{P-has, core-good, count-few, small-reserved, length-core, core-frees, owner-table, owner-stream}
+use Rattle.laws.proofs.Cores.{P-has, core-good, count-few, small-reserved, core-frees, owner-table, owner-stream}
 use Rattle.laws.proofs.InTable.{InTable, in-table}
 use Rattle.laws.proofs.Moves.{data-at}
 use Rattle.laws.proofs.Adding.{Described, retabled, Added, described}

@@ -1,23 +1,18 @@
 -- What a pyramid's blocks, and a stream's bytes, depend on.
-use mathlib.Core.Path.{_≡_, refl, sym, ap, _∙_}
-use mathlib.Core.Logic.{_≢_, _⊎_, inl, inr}
-use mathlib.Core.Bool.{Bool, true, false}
-use mathlib.Core.List.{List, [], _∷_, _++_, map}
+use mathlib.Core.Path.{_≡_, refl}
+use mathlib.Core.List.{List}
 use Prim.Native.Nat.{ℕ, zero, suc, _+_, _-_, _*_, _/_, _%_, _≤_, _<_}
 use native.Mathlib.Nat.{mod-lt, div-lt-iff-lt-mul}
-use native.Mathlib.Decide.{ℕ-discrete}
 use native.Mathlib.Omega.{arith}
-use lib.ListN.{length, getD}
-use lib.Dec.{leb, ltb, eqb}
-use Rattle.layout.specs.Bytes.{pick, num, run}
-use Rattle.laws.proofs.Picks.{leb-yes, leb-no}
+use lib.ListN.{getD}
+use Rattle.layout.specs.Bytes.{run}
 use Rattle.laws.proofs.ByteLaws.{num-agree}
-use Rattle.laws.proofs.Lists.{In, map-agree, in-either, in-left, in-right, map-in, in-map, run-in, in-run}
-use Rattle.layout.specs.Pyramid.{up, level, height}
+use Rattle.laws.proofs.Lists.{In, map-agree, map-in, in-map, run-in}
+use Rattle.layout.specs.Pyramid.{level, height}
 use Rattle.laws.proofs.Levels.{level-holds}
 use Rattle.laws.proofs.Cells.{kept-none, cells-in, in-cells}
-use Rattle.layout.specs.Blocks.{fan, place, slot, slotPlace, node, Cell, at, kept, row, cells, surplus, pyramid}
-use Rattle.layout.specs.Streams.{spot, tall, contents}
+use Rattle.layout.specs.Blocks.{fan, place, slot, slotPlace, node, at, cells, surplus, pyramid}
+use Rattle.layout.specs.Streams.{spot, contents}
 use Rattle.layout.specs.declared.Shape.{Shape}
 
 -- byte i is in block b

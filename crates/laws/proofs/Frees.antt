@@ -1,14 +1,13 @@
 -- The chain of the free descriptors, as a list: kept, with its first one taken, with one put first.
 use mathlib.Core.Path.{_≡_, refl, sym, ap, _∙_}
-use mathlib.Core.Logic.{_≢_, _⊎_, inl, inr}
+use mathlib.Core.Logic.{_≢_, inl, inr}
 use mathlib.Core.List.{List, [], _∷_}
-use Prim.Native.Nat.{ℕ, zero, suc, _+_, _*_, _≤_, _<_}
+use Prim.Native.Nat.{ℕ, _+_, _≤_, _<_}
 use native.Mathlib.Decide.{ℕ-discrete}
 use native.Mathlib.Omega.{arith}
-use lib.ListN.{length}
 use Rattle.layout.specs.Bytes.{num, end8}
 use Rattle.layout.specs.Blocks.{walk}
-use Rattle.layout.specs.Streams.{Desc, descIn, offset, slots, descOf, frees, firstDesc, descChain}
+use Rattle.layout.specs.Streams.{Desc, offset, slots, descOf, frees, firstDesc, descChain}
 use Rattle.laws.proofs.Lists.{In, Distinct}
 use Rattle.laws.proofs.Links.{Links, walk-links, links-walk, links-same}
 use Rattle.laws.proofs.Sets.{Same, distinct-le, same-of, same-back}

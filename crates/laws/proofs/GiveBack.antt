@@ -1,22 +1,22 @@
 -- Blocks given back: the chain and the bytes.
-use mathlib.Core.Path.{_≡_, refl, sym, ap, ap₂, _∙_}
+use mathlib.Core.Path.{_≡_, refl, ap, _∙_}
 use mathlib.Core.Logic.{_≢_, _⊎_, inl, inr}
 use mathlib.Core.Bool.{Bool, true, false}
-use mathlib.Core.List.{List, [], _∷_, _++_, map}
-use Prim.Native.Nat.{ℕ, zero, suc, _+_, _-_, _*_, _/_, _%_, _^_, _≤_, _<_}
+use mathlib.Core.List.{List, [], _∷_, _++_}
+use Prim.Native.Nat.{ℕ, zero, suc, _+_, _-_, _*_, _^_, _≤_, _<_}
 use native.Mathlib.Nat.{zero-add, add-zero, mul-le-mul-right}
 use native.Mathlib.Decide.{ℕ-discrete}
 use native.Mathlib.Omega.{arith}
 use lib.ListN.{length, getD}
-use lib.Dec.{T, eqb}
+use lib.Dec.{T}
 use Rattle.layout.specs.Bytes.{pick, num, put, holds, end4, end8}
-use Rattle.laws.proofs.Picks.{eqb-yes, eqb-no}
-use Rattle.laws.proofs.ByteLaws.{length-put, put-out, num-put, num-put-same, num-agree}
+use Rattle.laws.proofs.Picks.{eqb-no}
+use Rattle.laws.proofs.ByteLaws.{length-put, put-out, num-put-same}
 use Rattle.laws.proofs.Lists.{In, Distinct, holds-in, holds-read}
-use Rattle.layout.specs.Blocks.{fan, place, firstFree, next, wide, narrow, freed, linked, rising, falling, givenBack}
-use Rattle.laws.proofs.Frame.{Inside, SameIn}
+use Rattle.layout.specs.Blocks.{place, firstFree, next, wide, narrow, freed, linked, rising, falling, givenBack}
+use Rattle.laws.proofs.Frame.{SameIn}
 use Rattle.laws.proofs.Links.{Links, links-same}
-use Rattle.laws.proofs.Chain.{Good, Room, links-lt, one-block, within, same-next}
+use Rattle.laws.proofs.Chain.{Good, Room, links-lt, one-block, same-next}
 use Rattle.laws.proofs.Hanging.{NotField}
 use Rattle.layout.specs.declared.Shape.{Shape}
 

@@ -1,22 +1,19 @@
 -- Growth by one data block, whole.
-use mathlib.Core.Path.{_≡_, refl, sym, ap, ap₂, _∙_}
-use mathlib.Core.Logic.{_≢_, _⊎_, inl, inr}
-use mathlib.Core.List.{List, [], _∷_, _++_, map}
-use Prim.Native.Nat.{ℕ, zero, suc, _+_, _-_, _*_, _/_, _%_, _≤_, _<_}
+use mathlib.Core.Path.{_≡_, refl, _∙_}
+use mathlib.Core.Logic.{inl, inr}
+use mathlib.Core.List.{List, [], _∷_, _++_}
+use Prim.Native.Nat.{ℕ, zero, suc, _+_, _-_, _≤_, _<_}
 use native.Mathlib.Omega.{arith}
 use lib.ListN.{length, getD}
-use lib.Dec.{ltb}
-use Rattle.layout.specs.Bytes.{pick}
 use Rattle.laws.proofs.Picks.{leb-yes, leb-no}
-use Rattle.laws.proofs.Lists.{In}
 use Rattle.layout.specs.Pyramid.{level, above, height, missing, P}
 use Rattle.laws.proofs.Levels.{Next, stays, rises, grows, missing-pos, P-low, P-next, above-top, one-top, one-more, height-low}
-use Rattle.layout.specs.Blocks.{fan, place, slotPlace, slot, node, firstFree, taken, rooted, raised, grownOne, Grown}
-use Rattle.laws.proofs.Frame.{Inside, SameIn}
+use Rattle.layout.specs.Blocks.{fan, node, firstFree, taken, rooted, raised, grownOne, Grown}
+use Rattle.laws.proofs.Frame.{Inside}
 use Rattle.laws.proofs.Cells.{level-none}
 use Rattle.laws.proofs.Chain.{Good, Room, taken-else, taken-zero, taken-room}
-use Rattle.laws.proofs.Hanging.{NotField, NotSlot, Beyond, two, slot-inside}
-use Rattle.laws.proofs.Growth.{Skeleton, rooted-room, rooted-rest, rooted-old, rooted-new, rooted-zero, rooted-blank}
+use Rattle.laws.proofs.Hanging.{NotField, Beyond, two}
+use Rattle.laws.proofs.Growth.{Skeleton, rooted-room, rooted-rest, rooted-old, rooted-new, rooted-zero}
 use Rattle.laws.proofs.Raising.{crowned, crowned-room, crowned-else, crowned-old, crowned-skeleton}
 use Rattle.layout.specs.declared.Shape.{Shape}
 

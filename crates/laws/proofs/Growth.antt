@@ -1,21 +1,19 @@
 -- Growth by one data block: what the new card's pyramid and chain are.
-use mathlib.Core.Path.{_≡_, refl, sym, ap, ap₂, _∙_}
-use mathlib.Core.Logic.{_≢_, _⊎_, inl, inr}
-use mathlib.Core.List.{List, [], _∷_, _++_, map}
+use mathlib.Core.Path.{_≡_, refl, sym, ap}
+use mathlib.Core.Logic.{inl, inr}
+use mathlib.Core.List.{List, [], _∷_, _++_}
 use Prim.Native.Nat.{ℕ, zero, suc, _+_, _-_, _*_, _/_, _%_, _≤_, _<_}
 use native.Mathlib.Nat.{mod-lt, eq-or-lt-of-le, div-add-mod'}
-use native.Mathlib.Decide.{ℕ-discrete}
 use native.Mathlib.Omega.{arith}
 use lib.ListN.{length, getD}
-use Rattle.layout.specs.Bytes.{num, put}
 use Rattle.laws.proofs.ByteLaws.{num-agree}
-use Rattle.laws.proofs.Lists.{In, Distinct, in-left}
-use Rattle.layout.specs.Pyramid.{level, above, height, missing}
-use Rattle.laws.proofs.Levels.{level-holds, missing-le, missing-level, present-level, missing-slot, above-top}
-use Rattle.layout.specs.Blocks.{fan, place, slotPlace, slot, node, firstFree, taken, hooked, hung, rooted, raised}
-use Rattle.laws.proofs.Frame.{Inside, SameIn, same-slot, same-node}
+use Rattle.laws.proofs.Lists.{In, in-left}
+use Rattle.layout.specs.Pyramid.{level, above, missing}
+use Rattle.laws.proofs.Levels.{level-holds, missing-le, missing-level, present-level, missing-slot}
+use Rattle.layout.specs.Blocks.{fan, slotPlace, node, hung, rooted}
+use Rattle.laws.proofs.Frame.{Inside, same-node}
 use Rattle.laws.proofs.Chain.{Good, Room, one-block}
-use Rattle.laws.proofs.Hanging.{Hangs, lastOf, NotField, NotSlot, Beyond, Ready, two, slot-inside, slot-apart, block-field, beyond, hung-room, hung-else, hung-hangs, hung-blank, hung-end}
+use Rattle.laws.proofs.Hanging.{Hangs, NotField, NotSlot, Beyond, Ready, two, slot-inside, block-field, beyond, hung-room, hung-else, hung-hangs, hung-blank, hung-end}
 use Rattle.layout.specs.declared.Shape.{Shape}
 
 -- the pyramid of height h over d data blocks: its blocks are in range, none stands twice and none is free

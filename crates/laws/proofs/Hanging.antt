@@ -1,15 +1,15 @@
 -- Blocks taken and hung one below the other.
-use mathlib.Core.Path.{_≡_, refl, sym, ap, ap₂, _∙_}
-use mathlib.Core.Logic.{_≢_, _⊎_, inl, inr}
-use mathlib.Core.List.{List, [], _∷_, _++_, map}
-use Prim.Native.Nat.{ℕ, zero, suc, _+_, _-_, _*_, _/_, _%_, _≤_, _<_}
+use mathlib.Core.Path.{_≡_, refl, sym, ap, _∙_}
+use mathlib.Core.Logic.{_≢_, inl, inr}
+use mathlib.Core.List.{List, [], _∷_, _++_}
+use Prim.Native.Nat.{ℕ, suc, _+_, _-_, _≤_, _<_}
 use native.Mathlib.Omega.{arith}
 use lib.ListN.{length, getD}
-use Rattle.layout.specs.Bytes.{num, put}
+use Rattle.layout.specs.Bytes.{put}
 use Rattle.laws.proofs.ByteLaws.{num-agree}
-use Rattle.laws.proofs.Lists.{In, Distinct, in-left}
-use Rattle.layout.specs.Blocks.{fan, place, slotPlace, slot, firstFree, taken, hooked, hung}
-use Rattle.laws.proofs.Frame.{Inside, SameIn, same-slot}
+use Rattle.laws.proofs.Lists.{In, in-left}
+use Rattle.layout.specs.Blocks.{fan, slotPlace, slot, taken, hooked, hung}
+use Rattle.laws.proofs.Frame.{Inside}
 use Rattle.laws.proofs.Chain.{Good, Room, one-block, taken-else, taken-zero, taken-room, slotted-else, slotted-same, slotted-slot, slotted-room}
 use Rattle.layout.specs.declared.Shape.{Shape}
 

@@ -1,11 +1,10 @@
 -- The header stays: the same shape, and rules 1 to 3 hold again.
 use mathlib.Core.Path.{_≡_, refl, sym, ap, ap₂, _∙_}
-use mathlib.Core.Bool.{Bool, true, false}
 use mathlib.Core.List.{List, [], _∷_}
-use Prim.Native.Nat.{ℕ, zero, suc, _+_, _-_, _^_, _≤_, _<_}
+use Prim.Native.Nat.{ℕ, _+_, _-_, _≤_, _<_}
 use native.Mathlib.Omega.{arith}
 use lib.ListN.{length, getD}
-use lib.Dec.{T, eqb}
+use lib.Dec.{eqb}
 use Rattle.layout.specs.Bytes.{both, matches}
 use Rattle.layout.specs.Header.{shaped, shapeOf, shiftOf, head1, head2, head3, head4, fixed}
 use Rattle.laws.proofs.Hanging.{NotField}

@@ -1,12 +1,12 @@
 -- Bytes laid in the table: its bytes change there, its blocks stay, and so does every stream.
-use mathlib.Core.Path.{_≡_, refl, sym, ap, _∙_}
-use mathlib.Core.Logic.{_≢_, _⊎_, inl, inr}
-use mathlib.Core.List.{List, [], _∷_, _++_}
-use Prim.Native.Nat.{ℕ, zero, suc, _+_, _-_, _*_, _≤_, _<_}
+use mathlib.Core.Path.{_≡_, ap, _∙_}
+use mathlib.Core.Logic.{_≢_}
+use mathlib.Core.List.{List, []}
+use Prim.Native.Nat.{ℕ, suc, _+_, _-_, _*_, _≤_, _<_}
 use native.Mathlib.Omega.{arith}
 use lib.ListN.{length, getD}
 use Rattle.layout.specs.Bytes.{over}
-use Rattle.layout.specs.Streams.{Desc, dataOf, spot, tall, contents, laid, table, tableBytes, inTable, tableBlocks}
+use Rattle.layout.specs.Streams.{Desc, dataOf, spot, tall, laid, table, tableBytes, inTable, tableBlocks}
 use Rattle.laws.proofs.Lists.{In}
 use Rattle.laws.proofs.Chain.{Good}
 use Rattle.laws.proofs.Hanging.{NotField, Beyond, header-beyond}

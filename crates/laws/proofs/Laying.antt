@@ -1,25 +1,25 @@
 -- Bytes written in place.
-use mathlib.Core.Path.{_≡_, refl, sym, ap, ap₂, _∙_}
-use mathlib.Core.Logic.{_≢_, _⊎_, inl, inr}
-use mathlib.Core.List.{List, [], _∷_, _++_, map}
+use mathlib.Core.Path.{_≡_, refl, sym, ap, _∙_}
+use mathlib.Core.Logic.{_≢_}
+use mathlib.Core.List.{List}
 use Prim.Native.Nat.{ℕ, zero, suc, _+_, _-_, _*_, _/_, _%_, _≤_, _<_}
 use native.Mathlib.Nat.{mod-lt, div-add-mod', div-lt-iff-lt-mul}
 use native.Mathlib.Decide.{ℕ-discrete, decLe, decLt}
 use native.Mathlib.Omega.{arith}
-use lib.ListN.{length, getD, set, length-set, length-map}
+use lib.ListN.{length, getD, length-set, length-map}
 use lib.Seq.{getD-set-same, getD-set-other, ext-getD}
 use Rattle.layout.specs.Bytes.{num, run, over}
 use Rattle.laws.proofs.ByteLaws.{num-agree, over-in, over-out, length-over}
-use Rattle.laws.proofs.Lists.{In, Distinct, length-run, map-run-at}
-use Rattle.layout.specs.Pyramid.{level, height, up}
-use Rattle.laws.proofs.Levels.{level-holds, up-holds, up-covers}
-use Rattle.layout.specs.Blocks.{fan, place, slot, node, firstFree, next}
+use Rattle.laws.proofs.Lists.{length-run, map-run-at}
+use Rattle.layout.specs.Pyramid.{level}
+use Rattle.laws.proofs.Levels.{level-holds}
+use Rattle.layout.specs.Blocks.{fan, node, firstFree, next}
 use Rattle.laws.proofs.Frame.{Inside, SameIn, same-slot, same-node}
 use Rattle.laws.proofs.Chain.{Good, Room, one-block, within, same-next}
 use Rattle.laws.proofs.Links.{links-same}
-use Rattle.laws.proofs.Hanging.{NotField, two, block-field}
+use Rattle.laws.proofs.Hanging.{two}
 use Rattle.laws.proofs.Growth.{Skeleton}
-use Rattle.layout.specs.Streams.{spot, tall, dataFor, contents, laidTo, laid}
+use Rattle.layout.specs.Streams.{spot, tall, contents, laidTo, laid}
 use Rattle.layout.specs.declared.Shape.{Shape}
 
 module _ (s : Shape) (good : Good s) (c : List ℕ) (top h d p : ℕ) (vs free : List ℕ)

@@ -1,16 +1,16 @@
 -- No step changes a card's length.
-use mathlib.Core.Path.{_≡_, refl, sym, ap, _∙_}
+use mathlib.Core.Path.{_≡_, refl, _∙_}
 use mathlib.Core.Bool.{Bool, true, false}
-use mathlib.Core.List.{List, [], _∷_, _++_, map}
-use Prim.Native.Nat.{ℕ, zero, suc, _+_, _-_, _*_, _/_, _%_, _≤_, _<_}
+use mathlib.Core.List.{List, [], _∷_}
+use Prim.Native.Nat.{ℕ, zero, suc, _-_}
 use lib.ListN.{length, replicate, length-set}
 use lib.Dec.{ltb}
-use Rattle.layout.specs.Bytes.{pick, put, over}
+use Rattle.layout.specs.Bytes.{pick, put}
 use Rattle.laws.proofs.ByteLaws.{length-over, length-put}
-use Rattle.layout.specs.Pyramid.{height, above, missing}
+use Rattle.layout.specs.Pyramid.{height}
 use Rattle.laws.proofs.GiveBack.{length-freed}
-use Rattle.layout.specs.Blocks.{fan, place, slotPlace, node, firstFree, next, narrow, taken, freed, linked, falling, givenBack, Grown, hooked, hung, raised, rooted, grownOne, grown}
-use Rattle.layout.specs.Streams.{spot, laidTo}
+use Rattle.layout.specs.Blocks.{fan, place, slotPlace, firstFree, next, taken, freed, linked, falling, givenBack, Grown, hooked, hung, raised, rooted, grownOne, grown}
+use Rattle.layout.specs.Streams.{laidTo}
 use Rattle.layout.specs.declared.Shape.{Shape}
 
 module _ (s : Shape) where

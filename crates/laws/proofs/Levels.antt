@@ -1,14 +1,11 @@
 -- The laws of levels, heights and P, for any f of at least 2.
 use mathlib.Core.Path.{_≡_, refl, sym, ap, _∙_}
 use mathlib.Core.Logic.{_≢_, _⊎_, inl, inr}
-use mathlib.Core.Bool.{Bool, true, false}
-use Prim.Native.Nat.{ℕ, zero, suc, _+_, _-_, _*_, _/_, _%_, _^_, _≤_, _<_}
-use native.Mathlib.Nat.{zero-add, suc-add, mod-lt, div-add-mod', div-lt-self, div-lt-iff-lt-mul, zero-div, zero-mod, le-of-eq, eq-zero-or-pos, div-eq-of-lt, mod-eq-of-lt, le-div-iff-mul-le, div-mul-le-self}
+use Prim.Native.Nat.{ℕ, zero, suc, _+_, _-_, _*_, _/_, _%_, _≤_, _<_}
+use native.Mathlib.Nat.{zero-add, suc-add, mod-lt, div-add-mod', div-lt-self, div-lt-iff-lt-mul, zero-div, eq-zero-or-pos, div-eq-of-lt, mod-eq-of-lt, le-div-iff-mul-le, div-mul-le-self}
 use native.Mathlib.Decide.{ℕ-discrete, decLe, decLt}
 use native.Mathlib.Omega.{arith}
 use lib.Arith.{digits-div, digits-mod}
-use lib.Dec.{leb, ltb, eqb}
-use Rattle.layout.specs.Bytes.{pick}
 use Rattle.laws.proofs.Picks.{leb-yes, leb-no, eqb-yes, eqb-no}
 use Rattle.layout.specs.Pyramid.{up, level, above, climb, height, P, missing}
 

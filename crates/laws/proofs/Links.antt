@@ -1,12 +1,12 @@
 -- Chains: a walk from link to link, as a list. The free chain and the descriptors' chain are both of this kind.
 use mathlib.Core.Path.{_≡_, refl, ap}
-use mathlib.Core.Logic.{_≢_, _⊎_, inl, inr}
+use mathlib.Core.Logic.{_≢_, inl, inr}
 use mathlib.Core.List.{List, [], _∷_}
-use Prim.Native.Nat.{ℕ, zero, suc, _+_, _<_}
+use Prim.Native.Nat.{ℕ, zero, suc, _<_}
 use native.Mathlib.Decide.{ℕ-discrete}
 use native.Mathlib.Omega.{arith}
 use lib.ListN.{length}
-use Rattle.layout.specs.Bytes.{pick, end8}
+use Rattle.layout.specs.Bytes.{end8}
 use Rattle.layout.specs.Blocks.{walk}
 use Rattle.laws.proofs.Picks.{eqb-yes, eqb-no}
 use Rattle.laws.proofs.Lists.{In}

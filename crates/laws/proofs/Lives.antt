@@ -1,15 +1,14 @@
 -- The live and the free descriptors of a table's bytes.
-use mathlib.Core.Path.{_≡_, refl, sym, ap, _∙_}
-use mathlib.Core.Logic.{_≢_, _⊎_, inl, inr}
-use mathlib.Core.Bool.{Bool, true, false, not}
-use mathlib.Core.List.{List, [], _∷_, map}
-use Prim.Native.Nat.{ℕ, zero, suc, _+_, _-_, _*_, _/_, _≤_, _<_}
-use native.Mathlib.Decide.{ℕ-discrete}
+use mathlib.Core.Path.{_≡_, refl}
+use mathlib.Core.Logic.{_≢_, inl, inr}
+use mathlib.Core.Bool.{Bool, true, false}
+use mathlib.Core.List.{List, [], _∷_}
+use Prim.Native.Nat.{ℕ, suc, _-_, _≤_, _<_}
 use native.Mathlib.Omega.{arith}
 use lib.ListN.{length, length-map}
 use lib.Dec.{T}
 use Rattle.layout.specs.Bytes.{pick, end8, run, those}
-use Rattle.layout.specs.Streams.{Desc, offset, slots, descOf, dead, live, lives, frees}
+use Rattle.layout.specs.Streams.{offset, slots, descOf, dead, live, lives, frees}
 use Rattle.laws.proofs.Lists.{In, Distinct, in-run, run-in, length-run, run-distinct, in-map, map-in, map-distinct}
 use Rattle.laws.proofs.Tests.{Is, is-not, is-eqb}
 

@@ -1,15 +1,15 @@
 -- Growth by any number of data blocks.
-use mathlib.Core.Path.{_≡_, refl, sym, ap, ap₂, _∙_}
-use mathlib.Core.Logic.{_≢_, _⊎_, inl, inr}
-use mathlib.Core.List.{List, [], _∷_, _++_, map, append-assoc}
-use Prim.Native.Nat.{ℕ, zero, suc, _+_, _-_, _*_, _/_, _%_, _≤_, _<_}
-use native.Mathlib.Decide.{decLt, decLe}
+use mathlib.Core.Path.{_≡_, refl, sym, ap, _∙_}
+use mathlib.Core.Logic.{_⊎_, inl, inr}
+use mathlib.Core.List.{List, [], _∷_, _++_, append-assoc}
+use Prim.Native.Nat.{ℕ, zero, suc, _+_, _-_, _≤_, _<_}
+use native.Mathlib.Decide.{decLt}
 use native.Mathlib.Omega.{arith}
 use lib.ListN.{length, getD, take, drop, take-append-drop, length-take, length-drop}
-use Rattle.laws.proofs.Lists.{In, Distinct, in-left, in-right, in-getD}
-use Rattle.layout.specs.Pyramid.{level, above, height, P}
+use Rattle.laws.proofs.Lists.{In, in-left, in-right, in-getD}
+use Rattle.layout.specs.Pyramid.{level, height, P}
 use Rattle.laws.proofs.Levels.{P-rises, P-mono}
-use Rattle.layout.specs.Blocks.{fan, place, node, pyramid, grownOne, grown, Grown}
+use Rattle.layout.specs.Blocks.{fan, node, pyramid, grownOne, grown, Grown}
 use Rattle.laws.proofs.Frame.{Inside, SameIn, in-pyramid, pyramid-in}
 use Rattle.laws.proofs.Chain.{Good, Room}
 use Rattle.laws.proofs.Hanging.{NotField, Beyond, two}

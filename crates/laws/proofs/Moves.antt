@@ -1,30 +1,29 @@
 -- The three ways in which a stream changes: bytes laid in it, more of it, less of it.
 use mathlib.Core.Path.{_≡_, refl, sym, ap, _∙_}
-use mathlib.Core.Logic.{_≢_, _⊎_, inl, inr}
-use mathlib.Core.List.{List, [], _∷_, _++_}
-use Prim.Native.Nat.{ℕ, zero, suc, _+_, _-_, _*_, _/_, _%_, _≤_, _<_, max}
+use mathlib.Core.Logic.{_≢_, inl}
+use mathlib.Core.List.{List, [], _++_}
+use Prim.Native.Nat.{ℕ, zero, suc, _+_, _-_, _*_, _/_, _%_, _≤_, _<_}
 use native.Mathlib.Nat.{mod-lt, div-lt-iff-lt-mul}
 use native.Mathlib.Omega.{arith}
 use lib.ListN.{length, getD, take, drop, length-take, take-append-drop}
 use lib.Seq.{ext-getD, getD-take}
-use Rattle.layout.specs.Bytes.{pick, over}
+use Rattle.layout.specs.Bytes.{over}
 use Rattle.layout.specs.Pyramid.{level, height, P}
 use Rattle.layout.specs.Blocks.{fan, node, chain, surplus, rising, Grown, grown, givenBack, loweredTop}
-use Rattle.layout.specs.Streams.{Desc, dataOf, dataFor, spot, tall, contents, table, tableBytes, slots, descOf, stream, streamBytes, inStream, dataAt, lengthened, shortened, tableBlocks, streamBlocks}
+use Rattle.layout.specs.Streams.{Desc, dataOf, dataFor, spot, tall, contents, table, tableBytes, stream, streamBytes, inStream, dataAt, lengthened, shortened, tableBlocks, streamBlocks}
 use Rattle.laws.proofs.Picks.{eqb-yes}
 use Rattle.laws.proofs.Lists.{In}
-use Rattle.laws.proofs.Levels.{level-mono, height-mono, up-zero, up-covers, P-mono}
-use Rattle.laws.proofs.Chain.{Good, Room}
+use Rattle.laws.proofs.Levels.{level-mono, height-mono, up-covers, P-mono}
+use Rattle.laws.proofs.Chain.{Good}
 use Rattle.laws.proofs.Hanging.{NotField, header-beyond, two}
-use Rattle.laws.proofs.Longer.{Longer}
 use Rattle.laws.proofs.Shorter.{shorter-same, shorter-node, stays}
 use Rattle.laws.proofs.Laying.{contents-at, contents-laid, length-contents}
 use Rattle.laws.proofs.Others.{Kept}
 use Rattle.laws.proofs.Lives.{lives-in}
 use Rattle.laws.proofs.Parts.{Own, ownOf, blocks, text, Parts, Step, step-parts, step-keeps, step-spot, lay, give, grow, grow-longer, parts-own}
-use Rattle.laws.proofs.State.{slotsOf, livesOf, own, owners, Right, Form, Core, right-data, right-fits}
+use Rattle.laws.proofs.State.{livesOf, own, owners, Right, Form, Core, right-data, right-fits}
 use Rattle.laws.proofs.Cores.{core-good, owner-table, owner-stream}
-use Rattle.laws.proofs.InTable.{tableSpot, table-agree}
+use Rattle.laws.proofs.InTable.{table-agree}
 use Rattle.laws.proofs.Edits.{Edit, moved, moved-same, moved-other, Redescribed, slots-same, lives-same, core-again, chain-again, redescribe}
 use Rattle.layout.specs.declared.Shape.{Shape}
 

@@ -1,19 +1,18 @@
 -- One data block more: the chain, the pyramid and the bytes of the card then.
-use mathlib.Core.Path.{_≡_, refl, sym, ap, ap₂, _∙_}
-use mathlib.Core.Logic.{_≢_, _⊎_, inl, inr}
-use mathlib.Core.List.{List, [], _∷_, _++_, map}
-use Prim.Native.Nat.{ℕ, zero, suc, _+_, _-_, _*_, _/_, _%_, _≤_, _<_}
-use native.Mathlib.Decide.{decLt, decLe}
+use mathlib.Core.Path.{_≡_, sym, ap, _∙_}
+use mathlib.Core.Logic.{inl, inr}
+use mathlib.Core.List.{List, _++_}
+use Prim.Native.Nat.{ℕ, suc, _+_, _-_, _≤_, _<_}
 use native.Mathlib.Omega.{arith}
-use lib.ListN.{length, getD, take, drop, take-append-drop, length-take, length-drop}
-use Rattle.laws.proofs.Lists.{In, Distinct, in-left, in-right, distinct-left, distinct-right, distinct-apart, map-apart, in-getD, getD-apart}
-use Rattle.layout.specs.Pyramid.{level, above, height, missing, P}
+use lib.ListN.{length, getD}
+use Rattle.laws.proofs.Lists.{In, Distinct, in-left, in-right, distinct-left, distinct-apart, map-apart, in-getD, getD-apart}
+use Rattle.layout.specs.Pyramid.{level, above, height, P}
 use Rattle.laws.proofs.Levels.{split}
-use Rattle.layout.specs.Blocks.{fan, place, node, Cell, at, cells, surplus, pyramid, chain, grownOne, Grown}
+use Rattle.layout.specs.Blocks.{fan, node, Cell, at, cells, surplus, pyramid, chain, grownOne, Grown}
 use Rattle.laws.proofs.Cells.{in-cells, kept-none}
-use Rattle.laws.proofs.Frame.{Inside, SameIn, in-pyramid}
+use Rattle.laws.proofs.Frame.{SameIn, in-pyramid}
 use Rattle.laws.proofs.Chain.{Good, Room, room-chain, one-block}
-use Rattle.laws.proofs.Hanging.{NotField, Beyond, two, block-field, beyond}
+use Rattle.laws.proofs.Hanging.{two, block-field, beyond}
 use Rattle.laws.proofs.Growth.{Skeleton}
 use Rattle.laws.proofs.Growing.{Grew, grew}
 use Rattle.layout.specs.declared.Shape.{Shape}

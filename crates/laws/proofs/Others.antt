@@ -1,21 +1,19 @@
 -- Growth, truncation and writing leave every other pyramid, and the stream in it, as they were.
-use mathlib.Core.Path.{_≡_, refl, sym, ap, ap₂, _∙_}
-use mathlib.Core.Logic.{_≢_, _⊎_, inl, inr}
-use mathlib.Core.List.{List, [], _∷_, _++_, map}
-use Prim.Native.Nat.{ℕ, zero, suc, _+_, _-_, _*_, _/_, _%_, _≤_, _<_}
+use mathlib.Core.Path.{_≡_}
+use mathlib.Core.List.{List, _++_}
+use Prim.Native.Nat.{ℕ, _+_, _-_, _*_, _≤_}
 use native.Mathlib.Omega.{arith}
-use lib.ListN.{length, getD}
 use Rattle.laws.proofs.Lists.{In, in-left}
 use Rattle.layout.specs.Pyramid.{level, height}
-use Rattle.layout.specs.Blocks.{fan, node, cells, surplus, pyramid, Grown, givenBack}
-use Rattle.laws.proofs.Frame.{Inside, SameIn, in-pyramid, frame-pyramid, frame-contents}
-use Rattle.laws.proofs.Chain.{Good, Room, one-block}
-use Rattle.laws.proofs.Hanging.{NotField, Beyond, two, block-field, beyond}
+use Rattle.layout.specs.Blocks.{fan, surplus, pyramid, Grown, givenBack}
+use Rattle.laws.proofs.Frame.{SameIn, in-pyramid, frame-pyramid, frame-contents}
+use Rattle.laws.proofs.Chain.{Good, Room}
+use Rattle.laws.proofs.Hanging.{two, block-field, beyond}
 use Rattle.laws.proofs.Growth.{Skeleton}
 use Rattle.laws.proofs.Longer.{Longer}
 use Rattle.laws.proofs.Shorter.{shorter-same, surplus-in}
 use Rattle.laws.proofs.Laying.{laid-same}
-use Rattle.layout.specs.Streams.{contents, tall, laidTo}
+use Rattle.layout.specs.Streams.{contents, laidTo}
 use Rattle.layout.specs.declared.Shape.{Shape}
 
 -- a pyramid's blocks bs against another's, and the free ones

@@ -1,8 +1,8 @@
 -- A card as streams, each with blocks of its own, and a free chain; and a step that changes one stream.
-use mathlib.Core.Path.{_≡_, refl, sym, ap, ap₂, _∙_}
+use mathlib.Core.Path.{_≡_, refl, sym, ap, _∙_}
 use mathlib.Core.Logic.{_≢_, _⊎_, inl, inr}
-use mathlib.Core.List.{List, [], _∷_, _++_, map}
-use Prim.Native.Nat.{ℕ, zero, suc, _+_, _-_, _*_, _/_, _%_, _≤_, _<_}
+use mathlib.Core.List.{List, [], _∷_, _++_}
+use Prim.Native.Nat.{ℕ, zero, suc, _+_, _-_, _*_, _/_, _≤_, _<_}
 use native.Mathlib.Nat.{div-lt-iff-lt-mul}
 use native.Mathlib.Decide.{ℕ-discrete}
 use native.Mathlib.Omega.{arith}
@@ -12,20 +12,20 @@ use Rattle.laws.proofs.Joins.{total, total-agree, total-change, total-s
 use Rattle.laws.proofs.Sets.{same-many}
 use Rattle.layout.specs.Pyramid.{level, height, P}
 use Rattle.laws.proofs.Levels.{P-low, level-mono}
-use Rattle.layout.specs.Blocks.{fan, place, node, surplus, pyramid, Grown, grown, givenBack, loweredTop, rising}
-use Rattle.laws.proofs.Frame.{Inside, SameIn, in-pyramid, pyramid-in, frame-pyramid, frame-contents, frame-node}
+use Rattle.layout.specs.Blocks.{fan, node, surplus, pyramid, Grown, grown, givenBack, loweredTop, rising}
+use Rattle.laws.proofs.Frame.{SameIn, in-pyramid, pyramid-in, frame-pyramid, frame-contents, frame-node}
 use Rattle.laws.proofs.Cells.{level-none}
-use Rattle.laws.proofs.Chain.{Good, Room, one-block}
+use Rattle.laws.proofs.Chain.{Good, Room}
 use Rattle.laws.proofs.Hanging.{NotField, Beyond, two, block-field, beyond}
 use Rattle.laws.proofs.Growth.{Skeleton}
 use Rattle.laws.proofs.Longer.{Longer, longer}
-use Rattle.laws.proofs.GiveBack.{given-else, rising-in, NotLink}
+use Rattle.laws.proofs.GiveBack.{given-else, rising-in}
 use Rattle.laws.proofs.Shorter.{shorter-room, shorter-skeleton, shorter-node, surplus-in, gone-low, gone-out, low-enough}
 use Rattle.laws.proofs.Counting.{length-surplus, length-pyramid, length-rising}
 use Rattle.laws.proofs.Laying.{laid-else, laid-node, laid-skeleton, laid-room, spot-inside, data-in}
 use Rattle.laws.proofs.Others.{Kept}
 use Rattle.laws.proofs.Lengths.{length-grown, length-given, length-laid}
-use Rattle.laws.proofs.Bones.{skeleton-out, skeleton-low, skeleton-none, pyramid-nodes, frame-skeleton, surplus-distinct}
+use Rattle.laws.proofs.Bones.{skeleton-out, skeleton-none, pyramid-nodes, frame-skeleton, surplus-distinct}
 use Rattle.layout.specs.Streams.{Desc, dataOf, tall, spot, contents, laidTo, laid}
 use Rattle.layout.specs.declared.Shape.{Shape}
 

@@ -1,18 +1,18 @@
 -- A new top over the old one.
-use mathlib.Core.Path.{_≡_, refl, sym, ap, ap₂, _∙_}
-use mathlib.Core.Logic.{_≢_, _⊎_, inl, inr}
-use mathlib.Core.List.{List, [], _∷_, _++_, map}
-use Prim.Native.Nat.{ℕ, zero, suc, _+_, _-_, _*_, _/_, _%_, _≤_, _<_}
-use native.Mathlib.Nat.{mod-lt, zero-mod, zero-add}
+use mathlib.Core.Path.{_≡_, refl, sym, _∙_}
+use mathlib.Core.Logic.{_≢_, inl, inr}
+use mathlib.Core.List.{List, _∷_}
+use Prim.Native.Nat.{ℕ, zero, suc, _+_, _-_, _/_, _%_, _≤_, _<_}
+use native.Mathlib.Nat.{mod-lt, zero-mod}
 use native.Mathlib.Omega.{arith}
-use lib.ListN.{length, getD}
-use Rattle.layout.specs.Bytes.{num, put}
+use lib.ListN.{getD}
+use Rattle.layout.specs.Bytes.{put}
 use Rattle.laws.proofs.Lists.{In}
 use Rattle.layout.specs.Pyramid.{level, above}
 use Rattle.laws.proofs.Levels.{level-holds, above-div, above-level, one-more}
-use Rattle.layout.specs.Blocks.{fan, place, slotPlace, slot, node, firstFree, taken}
+use Rattle.layout.specs.Blocks.{fan, slotPlace, slot, node, taken}
 use Rattle.laws.proofs.Frame.{Inside, SameIn, same-slot, same-node}
-use Rattle.laws.proofs.Chain.{Good, Room, one-block, taken-else, taken-same, taken-room, slotted-else, slotted-same, slotted-slot, slotted-room}
+use Rattle.laws.proofs.Chain.{Good, Room, one-block, taken-else, taken-room, slotted-else, slotted-slot, slotted-room}
 use Rattle.laws.proofs.Hanging.{NotField, two, slot-inside, block-field}
 use Rattle.laws.proofs.Growth.{Skeleton}
 use Rattle.layout.specs.declared.Shape.{Shape}

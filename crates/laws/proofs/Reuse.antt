@@ -1,21 +1,21 @@
 -- The first free descriptor is taken off the chain and zeroed.
 use mathlib.Core.Path.{_≡_, refl, sym, ap, _∙_}
-use mathlib.Core.Logic.{_≢_, _⊎_, inl, inr}
+use mathlib.Core.Logic.{_≢_, inl, inr}
 use mathlib.Core.List.{List, [], _∷_}
-use Prim.Native.Nat.{ℕ, zero, suc, _+_, _*_, _^_, _≤_, _<_}
+use Prim.Native.Nat.{ℕ, zero, suc, _^_, _<_}
 use native.Mathlib.Decide.{decLt}
 use native.Mathlib.Omega.{arith}
-use lib.ListN.{length, replicate}
+use lib.ListN.{replicate}
 use Rattle.layout.specs.Bytes.{num, bytes, over, put, end8}
 use Rattle.layout.specs.Blocks.{chain}
-use Rattle.layout.specs.Streams.{Desc, table, tableBytes, offset, slots, descOf, firstDesc, descChain, inTable, stream}
+use Rattle.layout.specs.Streams.{Desc, tableBytes, offset, slots, descOf, firstDesc, descChain, inTable, stream}
 use Rattle.laws.proofs.ByteLaws.{num-over, num-put-same, length-bytes, length-over}
 use Rattle.laws.proofs.Lists.{In}
 use Rattle.laws.proofs.Descs.{desc-away, blank, zeros-at}
 use Rattle.laws.proofs.Lives.{lives-in}
 use Rattle.laws.proofs.Frees.{Frees, links-small, frees-pop}
-use Rattle.laws.proofs.Parts.{Own, ownOf, Parts, parts-own}
-use Rattle.laws.proofs.State.{slotsOf, livesOf, own, owners, Core}
+use Rattle.laws.proofs.Parts.{ownOf, parts-own}
+use Rattle.laws.proofs.State.{slotsOf, own, owners, Core}
 use Rattle.laws.proofs.Cores.{core-good, length-core, core-frees, owner-table, owner-stream}
 use Rattle.laws.proofs.InTable.{InTable, in-table, in-table-then}
 use Rattle.laws.proofs.Adding.{Described, retabled, Added, described}

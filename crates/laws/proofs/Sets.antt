@@ -1,13 +1,12 @@
 -- Lists of numbers with the same elements, each once.
 use mathlib.Core.Path.{_≡_, refl, ap}
-use mathlib.Core.Logic.{_≢_, _⊎_, inl, inr}
+use mathlib.Core.Logic.{_⊎_, inl, inr}
 use mathlib.Core.Bool.{Bool, true, false}
 use mathlib.Core.List.{List, [], _∷_, _++_}
-use Prim.Native.Nat.{ℕ, zero, suc, _+_, _≤_, _<_}
+use Prim.Native.Nat.{ℕ, _+_, _≤_}
 use native.Mathlib.Omega.{arith}
 use lib.ListN.{length, length-append}
-use lib.Dec.{T}
-use Rattle.layout.specs.Bytes.{pick, both, holds, distinct, allB}
+use Rattle.layout.specs.Bytes.{both, holds}
 use Rattle.layout.specs.Sound.{sameSet}
 use Rattle.laws.proofs.Lists.{In, Distinct, holds-in, holds-read}
 use Rattle.laws.proofs.Joins.{in-split, without}

@@ -1,24 +1,21 @@
 -- Fewer data blocks: what is kept, and what is free then.
-use mathlib.Core.Path.{_≡_, refl, sym, ap, ap₂, _∙_}
-use mathlib.Core.Logic.{_≢_, _⊎_, inl, inr}
-use mathlib.Core.Bool.{Bool, true, false}
-use mathlib.Core.List.{List, [], _∷_, _++_, map}
-use Prim.Native.Nat.{ℕ, zero, suc, _+_, _-_, _*_, _/_, _%_, _≤_, _<_}
+use mathlib.Core.Path.{_≡_, sym, _∙_}
+use mathlib.Core.Logic.{inl, inr}
+use mathlib.Core.List.{List, _++_}
+use Prim.Native.Nat.{ℕ, zero, suc, _+_, _-_, _/_, _≤_, _<_}
 use native.Mathlib.Nat.{mod-lt, add-zero, add-suc}
 use native.Mathlib.Omega.{arith}
-use lib.ListN.{length, getD}
-use Rattle.layout.specs.Bytes.{pick}
-use Rattle.laws.proofs.Picks.{leb-yes, leb-no, eqb-no}
-use Rattle.laws.proofs.Lists.{In, Distinct, in-right, in-either, map-in}
+use Rattle.laws.proofs.Picks.{leb-yes, eqb-no}
+use Rattle.laws.proofs.Lists.{In, in-either, map-in}
 use Rattle.layout.specs.Pyramid.{level, above, height}
 use Rattle.laws.proofs.Levels.{level-holds, above-div, above-level, one-top, level-mono, height-mono}
-use Rattle.layout.specs.Blocks.{fan, place, slot, node, at, kept, cells, surplus, rising, givenBack, loweredTop}
-use Rattle.laws.proofs.Frame.{Inside, SameIn, same-slot, same-node}
+use Rattle.layout.specs.Blocks.{fan, node, at, kept, cells, surplus, rising, givenBack, loweredTop}
+use Rattle.laws.proofs.Frame.{SameIn, same-slot, same-node}
 use Rattle.laws.proofs.Cells.{cells-in}
 use Rattle.laws.proofs.Chain.{Good, Room, one-block}
-use Rattle.laws.proofs.Hanging.{NotField, two, block-field}
+use Rattle.laws.proofs.Hanging.{two, block-field}
 use Rattle.laws.proofs.Growth.{Skeleton}
-use Rattle.laws.proofs.GiveBack.{given-room, given-else, rising-in, NotLink}
+use Rattle.laws.proofs.GiveBack.{given-room, given-else, rising-in}
 use Rattle.layout.specs.declared.Shape.{Shape}
 
 -- a pyramid below a node

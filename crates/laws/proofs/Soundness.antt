@@ -1,17 +1,16 @@
 -- The check finds no broken rule exactly where the card is whole.
-use mathlib.Core.Path.{_≡_, refl, sym, ap, _∙_}
-use mathlib.Core.Logic.{_≢_, _⊎_, inl, inr}
-use mathlib.Core.Bool.{Bool, true, false}
-use mathlib.Core.List.{List, [], _∷_, _++_, map}
+use mathlib.Core.Path.{_≡_, refl}
+use mathlib.Core.Logic.{_≢_, inl, inr}
+use mathlib.Core.List.{List, _∷_, _++_}
 use Prim.Native.Nat.{ℕ, zero, suc, _+_, _-_, _*_, _/_, _%_, _^_, _≤_, _<_}
 use native.Mathlib.Decide.{ℕ-discrete}
 use native.Mathlib.Omega.{arith}
 use lib.ListN.{length}
-use lib.Dec.{T, eqb, leb}
+use lib.Dec.{T}
 use Rattle.layout.specs.Limits.{leastShift, mostShift, mostBlocks, mostStreams}
-use Rattle.layout.specs.Bytes.{pick, both, end8, run, separate, join}
+use Rattle.layout.specs.Bytes.{end8, run, separate, join}
 use Rattle.layout.specs.Blocks.{chain}
-use Rattle.layout.specs.Streams.{Desc, dataOf, dataFor, table, tableBytes, offset, slots, descOf, live, lives, frees, descChain, stream, streamBytes, tableBlocks}
+use Rattle.layout.specs.Streams.{Desc, dataOf, dataFor, table, tableBytes, offset, slots, descOf, frees, descChain, stream, streamBytes, tableBlocks}
 use Rattle.layout.specs.Filing.{entries, entriesOf}
 use Rattle.layout.specs.Header.{headLength, shapeOf, shiftOf, fixed}
 use Rattle.layout.specs.Sound.{rightDesc, liveForm, freeForm, goodForm, used, reached, rule1, rule2, rule3, rule4, rule5, rule6, rule7, rule8, broken}
@@ -23,8 +22,8 @@ use Rattle.laws.proofs.Entries.{indices}
 use Rattle.laws.proofs.Directories.{is-directory}
 use Rattle.laws.proofs.Chain.{Good}
 use Rattle.laws.proofs.Lives.{is-live, lives-in}
-use Rattle.laws.proofs.Parts.{Own, blocks, Parts}
-use Rattle.laws.proofs.State.{slotsOf, livesOf, own, owners, Headed, Right, Form, Filed, Core, Whole, good, room-long, right-fits, length-table, owners-distinct, used-is, to-parts, parts-many, parts-low, parts-distinct, use-low, use-distinct}
+use Rattle.laws.proofs.Parts.{blocks}
+use Rattle.laws.proofs.State.{slotsOf, livesOf, own, owners, Headed, Right, Form, Filed, Whole, good, room-long, right-fits, length-table, owners-distinct, used-is, to-parts, parts-many, parts-low, parts-distinct, use-low, use-distinct}
 use Rattle.layout.specs.declared.Shape.{Shape}
 
 -- ---- the parts of the rules

@@ -1,8 +1,7 @@
 -- A sound card, in words: what the eight rules say of it.
-use mathlib.Core.Path.{_≡_, refl, sym, ap, ap₂, _∙_, subst}
+use mathlib.Core.Path.{_≡_, sym, ap, _∙_, subst}
 use mathlib.Core.Logic.{_≢_, _⊎_, inl, inr}
-use mathlib.Core.Bool.{Bool, true, false}
-use mathlib.Core.List.{List, [], _∷_, _++_, map}
+use mathlib.Core.List.{List, _∷_, _++_, map}
 use Prim.Native.Nat.{ℕ, zero, suc, _+_, _-_, _*_, _/_, _%_, _^_, _≤_, _<_}
 use native.Mathlib.Nat.{pow-le-pow-right, div-mul-le-self}
 use native.Mathlib.Omega.{arith}
@@ -10,18 +9,18 @@ use lib.ListN.{length, length-append}
 use lib.Dec.{T}
 use Rattle.layout.specs.Limits.{leastShift, mostShift, mostBlocks, mostStreams}
 use Rattle.layout.specs.Bytes.{end8, join}
-use Rattle.layout.specs.Blocks.{fan, chain, pyramid}
-use Rattle.layout.specs.Streams.{Desc, dataOf, dataFor, contents, table, tableBytes, offset, slots, lives, frees, descChain, stream, streamBytes, tableBlocks, streamBlocks}
+use Rattle.layout.specs.Blocks.{chain}
+use Rattle.layout.specs.Streams.{Desc, dataOf, dataFor, table, tableBytes, offset, slots, lives, frees, descChain, stream, streamBytes, tableBlocks, streamBlocks}
 use Rattle.layout.specs.Filing.{entries}
-use Rattle.layout.specs.Header.{headLength, shaped, shapeOf, shiftOf, fixed}
+use Rattle.layout.specs.Header.{headLength, shapeOf, shiftOf, fixed}
 use Rattle.layout.specs.Sound.{used}
-use Rattle.laws.proofs.Lists.{In, Distinct, in-left, in-right, in-either, in-map, map-in, distinct-left, distinct-right, distinct-apart, distinct-both, map-distinct}
+use Rattle.laws.proofs.Lists.{In, Distinct, in-left, in-right, in-either, map-in, distinct-left, distinct-right, distinct-apart, distinct-both, map-distinct}
 use Rattle.laws.proofs.Joins.{total, total-agree, distinct-join, join-distinct, join-apart, in-join, join-in, length-join, join-map, all-of}
 use Rattle.laws.proofs.Sets.{Same}
 use Rattle.laws.proofs.Entries.{indices}
 use Rattle.laws.proofs.Directories.{Directory}
 use Rattle.laws.proofs.Levels.{div-is, up-covers}
-use Rattle.laws.proofs.Chain.{Good, Room, chain-room, room-chain}
+use Rattle.laws.proofs.Chain.{Good, chain-room, room-chain}
 use Rattle.laws.proofs.Hanging.{two}
 use Rattle.laws.proofs.OneMore.{skeleton}
 use Rattle.laws.proofs.Counting.{length-pyramid}

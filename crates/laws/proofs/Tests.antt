@@ -1,15 +1,14 @@
 -- What a test says: a Bool and the statement it decides, both ways.
-use mathlib.Core.Path.{_≡_, refl, sym, ap, ap₂, _∙_}
-use mathlib.Core.Logic.{_≢_, _⊎_, inl, inr}
+use mathlib.Core.Path.{_≡_, refl, ap₂}
+use mathlib.Core.Logic.{inl, inr}
 use mathlib.Core.Bool.{Bool, true, false, not}
-use mathlib.Core.List.{List, [], _∷_, _++_, map}
-use Prim.Native.Nat.{ℕ, zero, suc, _+_, _≤_, _<_}
+use mathlib.Core.List.{List, [], _∷_}
+use Prim.Native.Nat.{ℕ, suc, _≤_, _<_}
 use native.Mathlib.Omega.{arith}
-use lib.ListN.{length}
-use lib.Dec.{leb, ltb, eqb, T, leb→le, le→leb, ltb→lt, lt→ltb, eqb→eq, eqb-refl}
+use lib.Dec.{leb, ltb, eqb, T, leb→le, le→leb, ltb→lt, lt→ltb, eqb→eq}
 use Rattle.layout.specs.Bytes.{pick, both, same, allB, holds, distinct, below}
 use Rattle.laws.proofs.Picks.{eqb-yes}
-use Rattle.laws.proofs.Lists.{In, Distinct, both-left, both-right, holds-in, holds-read, distinct-read, below-read}
+use Rattle.laws.proofs.Lists.{In, Distinct, both-left, both-right, holds-in, holds-read}
 
 pub record Is (b : Bool) (A : Type 0) : Type 0 where
   pub out : T b → A

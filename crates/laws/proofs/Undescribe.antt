@@ -1,15 +1,14 @@
 -- A descriptor of a stream with no bytes is put first on the descriptors' chain.
 use mathlib.Core.Path.{_≡_, refl, sym, ap, _∙_, subst}
-use mathlib.Core.Logic.{_≢_, _⊎_, inl, inr}
-use mathlib.Core.List.{List, [], _∷_, _++_}
-use Prim.Native.Nat.{ℕ, zero, suc, _+_, _*_, _/_, _^_, _≤_, _<_}
-use native.Mathlib.Nat.{zero-div}
+use mathlib.Core.Logic.{_≢_, inl, inr}
+use mathlib.Core.List.{List, _∷_, _++_}
+use Prim.Native.Nat.{ℕ, zero, suc, _+_, _^_, _≤_, _<_}
 use native.Mathlib.Decide.{ℕ-discrete, decLt}
 use native.Mathlib.Omega.{arith}
 use lib.ListN.{length, getD}
 use Rattle.layout.specs.Bytes.{num, bytes, over, put, end8}
 use Rattle.layout.specs.Blocks.{chain}
-use Rattle.layout.specs.Streams.{Desc, dataOf, dataFor, table, tableBytes, offset, slots, descOf, firstDesc, descChain, inTable, stream, streamBytes, tableBlocks, streamBlocks}
+use Rattle.layout.specs.Streams.{Desc, dataOf, tableBytes, offset, slots, descOf, firstDesc, descChain, inTable, stream, streamBytes, tableBlocks, streamBlocks}
 use Rattle.laws.proofs.ByteLaws.{num-put-same, length-bytes, length-over}
 use Rattle.laws.proofs.Lists.{In, in-map, map-in}
 use Rattle.laws.proofs.Levels.{up-zero}
@@ -18,7 +17,7 @@ use Rattle.laws.proofs.Hanging.{NotField, Beyond, header-beyond}
 use Rattle.laws.proofs.Descs.{desc-away, desc-size, desc-two, length-two}
 use Rattle.laws.proofs.Lives.{lives-in, in-lives}
 use Rattle.laws.proofs.Frees.{Frees, links-small, frees-push}
-use Rattle.laws.proofs.Parts.{Own, ownOf, blocks, text, Parts, parts-own, parts-drop, parts-same}
+use Rattle.laws.proofs.Parts.{ownOf, blocks, text, Parts, parts-own, parts-drop, parts-same}
 use Rattle.laws.proofs.State.{slotsOf, livesOf, own, owners, Right, Form, Core, owners-distinct, right-data}
 use Rattle.laws.proofs.Cores.{core-good, length-core, core-frees, owner-table, owner-stream, core-of}
 use Rattle.laws.proofs.InTable.{InTable, in-table, in-table-then}

@@ -1,6 +1,6 @@
 -- The definitions give each of the cases: one computation.
 use mathlib.Core.Path.{_≡_, refl}
-use mathlib.Core.Bool.{Bool, true, false}
+use mathlib.Core.Bool.{true}
 use Rattle.layout.specs.Bytes.{allB, num, bytes, over, put, matches, same, run, holds, distinct, below, those, separate, join}
 use Rattle.layout.specs.Pyramid.{level, above, climb, height, P, missing}
 use Rattle.layout.specs.Blocks.{walk, next, chain, taken, freed, linked, falling, rising, givenBack, node, kept, cells, surplus, hooked, hung, raised, rooted, grownOne, grown, loweredTop}

@@ -1,5 +1,4 @@
 -- Blocks: where they are, the free chain, taking and giving back; the pyramid over a stream's blocks, and its growth.
-use mathlib.Core.Bool.{Bool, true, false}
 use Prim.Native.Nat.{ℕ, zero, suc, _+_, _-_, _*_, _/_, _%_}
 use mathlib.Core.List.{List, [], _∷_, _++_, map}
 use lib.ListN.{replicate}

@@ -1,5 +1,5 @@
 -- The ten calls: what each answers and leaves, for every input.
-use mathlib.Core.Bool.{Bool, true, false, not}
+use mathlib.Core.Bool.{Bool, not}
 use Prim.Native.Nat.{ℕ, zero, suc, _+_, _-_, _/_, max}
 use mathlib.Core.List.{List, [], _∷_, _++_}
 use lib.ListN.{length, getD, take, drop, replicate}
@@ -7,7 +7,7 @@ use lib.Dec.{leb, ltb, eqb}
 use Rattle.layout.specs.Limits.{mostStreams, longestName}
 use Rattle.layout.specs.Bytes.{pick, num, bytes, over, put, end4, end8}
 use Rattle.layout.specs.Blocks.{chain, place}
-use Rattle.layout.specs.Streams.{Desc, table, tableBytes, offset, slots, lives, firstDesc, stream, streamBytes, inTable, inStream, wants, lengthened, shortened, tableLengthened}
+use Rattle.layout.specs.Streams.{table, tableBytes, offset, slots, lives, firstDesc, stream, streamBytes, inTable, inStream, wants, lengthened, shortened, tableLengthened}
 use Rattle.layout.specs.Filing.{Entry, entriesOf, goodName, lookIn, nothing, withEntry, withoutEntry, extended, pulled}
 use Rattle.layout.specs.Header.{shaped, shapeOf, newHeader, goodShape}
 use Rattle.layout.specs.Sound.{broken}

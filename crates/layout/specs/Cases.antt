@@ -1,19 +1,17 @@
 -- The worked cases C1 to C12 of the layout page (L158) as one list: the case's number, and a test that the definitions must pass.
 -- From 13 on they are our own, for what the twelve do not tell apart: the sorting of freed blocks, and the order of the rules.
-use mathlib.Core.Bool.{Bool, true, false}
+use mathlib.Core.Bool.{Bool}
 use Prim.Native.Nat.{ℕ, _+_}
 use mathlib.Core.List.{List, [], _∷_, _++_, map}
-use lib.ListN.{length, getD, replicate, set}
+use lib.ListN.{length, replicate, set}
 use lib.Dec.{eqb}
-use Rattle.layout.specs.Bytes.{num, bytes, over, put, same, both, end8}
-use Rattle.layout.specs.Pyramid.{P}
-use Rattle.layout.specs.Blocks.{chain, pyramid, place}
-use Rattle.layout.specs.Streams.{Desc, table, tableBytes, descOf, firstDesc, stream, streamBytes, streamBlocks, wants}
+use Rattle.layout.specs.Bytes.{put, same, both, end8}
+use Rattle.layout.specs.Blocks.{chain, place}
+use Rattle.layout.specs.Streams.{Desc, table, tableBytes, firstDesc, stream, streamBytes, streamBlocks, wants}
 use Rattle.layout.specs.Header.{shapeOf}
 use Rattle.layout.specs.Sound.{broken}
 use Rattle.layout.specs.Answers.{Outcome}
-use Rattle.layout.specs.Calls.{format, check, room, size, read, list, write, truncate, create, createWants, delete}
-use Rattle.layout.specs.declared.Shape.{Shape}
+use Rattle.layout.specs.Calls.{format, room, size, read, write, create, createWants, delete}
 
 -- ---- the cards of the cases
 

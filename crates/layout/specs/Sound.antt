@@ -1,14 +1,14 @@
 -- What a sound card is: eight rules, each read on the footing that the earlier ones hold.
-use mathlib.Core.Bool.{Bool, true, false, not}
-use Prim.Native.Nat.{ℕ, _+_, _-_, _*_, _/_, _%_, _^_}
-use mathlib.Core.List.{List, [], _∷_, _++_, map}
+use mathlib.Core.Bool.{Bool, true}
+use Prim.Native.Nat.{ℕ, _+_, _-_, _*_, _%_, _^_}
+use mathlib.Core.List.{List, _∷_, _++_, map}
 use lib.ListN.{length}
 use lib.Dec.{leb, eqb}
 use Rattle.layout.specs.Limits.{mostStreams}
 use Rattle.layout.specs.Bytes.{pick, both, run, allB, holds, distinct, separate, join}
 use Rattle.layout.specs.Blocks.{chain}
 use Rattle.layout.specs.Streams.{Desc, dataOf, dataFor, table, tableBytes, offset, slots, descOf, live, lives, frees, descChain, streamBytes, tableBlocks, streamBlocks}
-use Rattle.layout.specs.Filing.{Entry, entriesOf, goodDirectory}
+use Rattle.layout.specs.Filing.{entriesOf, goodDirectory}
 use Rattle.layout.specs.Header.{headLength, shapeOf, shiftOf, fixed, goodShift, goodRest}
 use Rattle.layout.specs.declared.Shape.{Shape}
 

@@ -1,7 +1,7 @@
 -- Streams: descriptors, contents, writing in place, lengthening and shortening; the table of descriptors.
-use mathlib.Core.Bool.{Bool, true, false, not}
+use mathlib.Core.Bool.{Bool, not}
 use Prim.Native.Nat.{ℕ, zero, suc, _+_, _-_, _*_, _/_, _%_, max}
-use mathlib.Core.List.{List, [], _∷_, _++_, map}
+use mathlib.Core.List.{List, _++_, map}
 use lib.ListN.{length, getD, set}
 use lib.Dec.{eqb}
 use Rattle.layout.specs.Bytes.{num, bytes, over, end8, run, those}

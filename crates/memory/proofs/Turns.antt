@@ -1,0 +1,151 @@
+-- The turns of the loops over bytes: what is left to do from here equals the whole from the start.
+use mathlib.Core.Path.{_≡_, refl, sym, _∙_, ap}
+use mathlib.Core.List.{List, [], _∷_, _++_}
+use Prim.Native.Nat.{ℕ, zero, suc, _+_, _-_, _*_, _/_, _%_, _^_, min, _≤_, _<_}
+use native.Mathlib.Nat.{pow-suc, pow-le-pow-right}
+use native.Mathlib.Numerals.{add-one, sub-one}
+use native.Mathlib.Omega.{arith}
+use lib.ListN.{length, getD, set, take, drop, replicate, drop-of-length-le, length-set, List·getD-eq-default, length-drop, length-take, length-replicate}
+use lib.Seq.{set-out, take-nil, take-take, take-add, drop-drop, drop-cons}
+use Rattle.layout.specs.Bytes.{num, bytes, over, put, matches}
+use Rattle.laws.proofs.ByteLaws.{length-bytes, over-append, take-over}
+use borrow.Author.Tests.{eq-eqb, ne-eqb}
+use mathlib.Core.Bool.{true, false}
+
+-- ---- num
+
+pub num-out : (n : ℕ) (l : List ℕ) (at : ℕ) → length l ≤ at → num n l at ≡ 0
+unfolding num
+num-out zero l at h = refl
+num-out (suc n) l at h = omega (arith, List·getD-eq-default l 0 h, num-out n l (at + 1) (omega arith))
+
+-- one byte more in front
+pub num-step : (n : ℕ) (l : List ℕ) (p v b : ℕ) → 1 ≤ p → v ≡ num n l p → b ≡ getD l (p - 1) 0 → v * 256 + b ≡ num (n + 1) l (p - 1)
+unfolding num
+num-step n l (suc p) v b h e f = rw (add-one n, sub-one (suc p)) (omega (arith, ap (λ (q : ℕ). num n l q) (add-one p), rw (sub-one (suc p)) at f))
+
+pub pow-step : (n v b : ℕ) → v < 256 ^ n → b < 256 → v * 256 + b < 256 ^ (n + 1)
+pow-step n v b h k = rw (add-one n, pow-suc 256 n) (omega arith)
+
+pub pow-fits : (n v b : ℕ) → v < 256 ^ n → b < 256 → n < 8 → v * 256 + b < 2 ^ 64
+pow-fits n v b h k m = omega (arith, pow-step n v b h k, pow-le-pow-right {n = 256} (omega arith) {i = n + 1} {j = 8} (omega arith))
+
+-- ---- over
+
+pub over-out : (vs l : List ℕ) (at : ℕ) → length l ≤ at → over l at vs ≡ l
+unfolding over
+over-out [] l at h = refl
+over-out (v ∷ vs) l at h = rw (set-out l at v h) (over-out vs l (at + 1) (omega arith))
+
+-- what goes past the end may be left out
+pub over-take : (vs l : List ℕ) (at m : ℕ) → min (length vs) (length l - at) ≤ m → over l at (take m vs) ≡ over l at vs
+unfolding over
+over-take [] l at m h = rw (take-nil m) refl
+over-take (v ∷ vs) l at zero h = sym (over-out (v ∷ vs) l at (omega arith))
+over-take (v ∷ vs) l at (suc m) h = over-take vs (set l at v) (at + 1) m (rw (length-set l at v) (omega arith))
+
+take-replicate : (a m n : ℕ) → m ≤ n → take m (replicate n a) ≡ replicate m a
+take-replicate a zero n h = refl
+take-replicate a (suc m) zero h = absurd (omega arith)
+take-replicate a (suc m) (suc n) h = ap (λ (l : List ℕ). a ∷ l) (take-replicate a m n (omega arith))
+
+pub clear-clamp : (l : List ℕ) (at n m k : ℕ) → m ≡ min n k → k ≡ length l - at → over l at (replicate m 0) ≡ over l at (replicate n 0)
+clear-clamp l at n m k e f =
+    rw (← take-replicate 0 m n (omega arith)) (over-take (replicate n 0) l at m (simp length-replicate (omega arith)))
+
+pub clear-step : (l : List ℕ) (p n : ℕ) → 0 < n → over (set l p 0) (p + 1) (replicate (n - 1) 0) ≡ over l p (replicate n 0)
+unfolding over
+clear-step l p (suc n) h = rw (sub-one (suc n)) refl
+
+pub copy-clamp : (l src : List ℕ) (at from n m k a b : ℕ) → m ≡ min n k → k ≡ min a b → a ≡ length src - from → b ≡ length l - at →
+    over l at (take m (drop from src)) ≡ over l at (take n (drop from src))
+copy-clamp l src at from n m k a b e f g h =
+    rw (← take-take m n (drop from src) (omega arith))
+    (over-take (take n (drop from src)) l at m (simp (length-take, length-drop) (omega arith)))
+
+pub copy-step : (l src : List ℕ) (p q n : ℕ) → 0 < n → q < length src →
+    over (set l p (getD src q 0)) (p + 1) (take (n - 1) (drop (q + 1) src)) ≡ over l p (take n (drop q src))
+unfolding over
+copy-step l src p q (suc n) h k = rw (sub-one (suc n), add-one q, drop-cons src q 0 k) refl
+
+-- ---- put
+
+pub put-step : (n : ℕ) (l : List ℕ) (at v : ℕ) → 0 < n → put (n - 1) (set l at (v % 256)) (at + 1) (v / 256) ≡ put n l at v
+unfolding put over bytes
+put-step (suc n) l at v h = rw (sub-one (suc n)) refl
+
+-- ---- where a loop ends
+
+pub num-zero : (l : List ℕ) (at : ℕ) → num 0 l at ≡ 0
+unfolding num
+num-zero l at = refl
+
+pub num-same : {n m p q : ℕ} (l : List ℕ) → n ≡ m → p ≡ q → num n l p ≡ num m l q
+num-same l e f = rw (e, f) refl
+
+pub put-zero : (n : ℕ) (l : List ℕ) (at v : ℕ) → n ≤ 0 → l ≡ put n l at v
+unfolding put over bytes
+put-zero zero l at v h = refl
+put-zero (suc n) l at v h = absurd (omega arith)
+
+pub clear-none : (n : ℕ) (l : List ℕ) (at : ℕ) → n ≤ 0 → l ≡ over l at (replicate n 0)
+unfolding over
+clear-none zero l at h = refl
+clear-none (suc n) l at h = absurd (omega arith)
+
+pub copy-none : (n : ℕ) (l : List ℕ) (at : ℕ) (vs : List ℕ) → n ≤ 0 → l ≡ over l at (take n vs)
+unfolding over
+copy-none zero l at vs h = refl
+copy-none (suc n) l at vs h = absurd (omega arith)
+
+-- ---- counting down what is left, beside a place that goes up
+
+pub room-at : {n : ℕ} (l p : ℕ) → 0 < n → n ≤ l - p → p < l
+room-at l p h k = omega arith
+
+pub room-step : {n : ℕ} (l p : ℕ) → 0 < n → n ≤ l - p → n - 1 ≤ l - (p + 1)
+room-step l p h k = omega arith
+
+pub room-less : {n : ℕ} → 0 < n → n - 1 < n
+room-less h = omega arith
+
+take-bytes : (m n v : ℕ) → m ≤ n → take m (bytes n v) ≡ bytes m v
+unfolding bytes
+take-bytes zero n v h = refl
+take-bytes (suc m) zero v h = absurd (omega arith)
+take-bytes (suc m) (suc n) v h = ap (λ (l : List ℕ). v % 256 ∷ l) (take-bytes m n (v / 256) (omega arith))
+
+pub put-clamp : (l : List ℕ) (at n m k v : ℕ) → m ≡ min n k → k ≡ length l - at → put m l at v ≡ put n l at v
+unfolding put
+put-clamp l at n m k v e f =
+    rw (← take-bytes m n v (omega arith)) (over-take (bytes n v) l at m (simp length-bytes (omega arith)))
+
+-- ---- matches
+
+module _ (l : List ℕ) (p : ℕ) (want : List ℕ) (i x : ℕ) (e : x ≡ getD l p 0) (h : i < length want) where
+  pub match-step : x ≡ getD want i 0 → matches l (p + 1) (drop (i + 1) want) ≡ matches l p (drop i want)
+  unfolding matches
+  match-step f = rw (add-one i, drop-cons want i 0 h, ← e, eq-eqb x (getD want i 0) f) refl
+
+  pub match-stop : (x ≡ getD want i 0 → ⊥) → false ≡ matches l p (drop i want)
+  unfolding matches
+  match-stop f = rw (drop-cons want i 0 h, ← e, ne-eqb x (getD want i 0) f) refl
+
+pub match-end : (l : List ℕ) (p : ℕ) (want : List ℕ) (i : ℕ) → length want ≤ i → true ≡ matches l p (drop i want)
+unfolding matches
+match-end l p want i h = rw (drop-of-length-le want h) refl
+
+-- ---- a page at a time
+
+-- m bytes go by way of a page
+pub page-turn : (dst page src : List ℕ) (p q left m : ℕ) (page₁ dst₁ : List ℕ) → page₁ ≡ over page 0 (take m (drop q src)) → dst₁ ≡ over dst p (take m page₁)
+    → m ≤ left → left ≤ length src - q → m ≤ length page
+    → over dst₁ (p + m) (take (left - m) (drop (q + m) src)) ≡ over dst p (take left (drop q src))
+page-turn dst page src p q left m page₁ dst₁ e f a b h =
+    let xs = take m (drop q src) in
+    let n : length xs ≡ m = rw (length-take, length-drop) (omega arith) in
+    let t : take m (over page 0 xs) ≡ xs = take-over page xs m (sym n) h in
+    let whole : m + (left - m) ≡ left = omega arith in
+    let split : take left (drop q src) ≡ xs ++ take (left - m) (drop (q + m) src) =
+    ap (λ (k : ℕ). take k (drop q src)) (sym whole) ∙ take-add m (left - m) (drop q src) ∙ ap (λ (l : List ℕ). xs ++ take (left - m) l) (drop-drop m q src) in
+    rw (f, e, t, split, over-append dst p xs (take (left - m) (drop (q + m) src)), n)
