@@ -10,7 +10,8 @@ use Rattle.layout.specs.Streams.{Desc, dataOf, spot, tall, laid, table, tableBy
 use Rattle.laws.proofs.Lists.{In}
 use Rattle.laws.proofs.Chain.{Good}
 use Rattle.laws.proofs.Hanging.{NotField, Beyond, header-beyond}
-use Rattle.laws.proofs.Laying.{laid-else, contents-laid, spot-stays}
+use Rattle.laws.proofs.Laying.{laid-else, spot-stays}
+use Rattle.laws.proofs.Rows.{laid-is, contents-laid}
 use Rattle.laws.proofs.Others.{Kept}
 use Rattle.laws.proofs.Descs.{desc-agree}
 use Rattle.laws.proofs.Parts.{Own, ownOf, blocks, text, Parts, Step, step-parts, step-keeps, lay, lay-blocks}
@@ -56,7 +57,7 @@ module _ (s : Shape) (g : Good s) where
           table-is = t′;
           bytes-is = ap (λ (d : Desc). text c′ s (ownOf s d)) t′ ∙ contents-laid s g c (t .top) (dataOf s t) (t .size) at vs free (p .room) sk within fits;
           blocks-is = ap (λ (d : Desc). blocks c′ s (ownOf s d)) t′ ∙ (rw e at (lay-blocks s g c ks w 0 free p i at vs fits′));
-          spots = λ q l. ap (λ (d : Desc). spot c′ s (d .top) (tall s (dataOf s d)) q) t′ ∙ (unfold laid in spot-stays s g c (t .top) (dataOf s t) (t .size) at vs free (p .room) sk within fits q l);
+          spots = λ q l. ap (λ (d : Desc). spot c′ s (d .top) (tall s (dataOf s d)) q) t′ ∙ (rw (laid-is s g c (t .top) h (dataOf s t) at vs free (p .room) sk (omega (arith, within))) (spot-stays s g c (t .top) (dataOf s t) (t .size) at vs free (p .room) sk within fits q l));
           kept = λ j k. step-keeps s g c c′ ks w w 0 [] free free p st (suc j) k (omega arith);
           long = st .long;
           rest-same = λ q n b. st .rest-same q n (λ x k. absurd k) (rw e b);
@@ -64,8 +65,12 @@ module _ (s : Shape) (g : Good s) where
 
     -- only where the bytes go does a byte change
     pub in-table-else : (q : ℕ) → ((n : ℕ) → n < length vs → q ≢ tableSpot c s (at + n)) → getD (inTable c s at vs) q 0 ≡ getD c q 0
-    unfolding inTable laid
-    in-table-else q n = laid-else s g c (table c s .top) (tall s (dataOf s (table c s))) (dataOf s (table c s)) at vs free (p .room) (rw e at (p .bones 0 i)) (length vs) q n
+    unfolding inTable
+    in-table-else q n =
+        let t = table c s in
+        let h = tall s (dataOf s t) in
+        let sk = rw e at (p .bones 0 i) in
+        rw (laid-is s g c (t .top) h (dataOf s t) at vs free (p .room) sk (omega (arith, within))) (laid-else s g c (t .top) h (dataOf s t) at vs free (p .room) sk (length vs) q n)
 
   pub in-table-then : (c c₁ c₂ ks : List ℕ) (w : ℕ → Own) (free tb₁ tb₂ : List ℕ) → InTable c c₁ s ks w free tb₁ → InTable c₁ c₂ s ks w free tb₂ → InTable c c₂ s ks w free tb₂
   in-table-then c c₁ c₂ ks w free tb₁ tb₂ a b = record {

@@ -134,8 +134,7 @@ module _ (s : Shape) (good : Good s) (c : List ℕ) (top d size p : ℕ) (vs fre
           (λ k u e. let z = spot-apart s good c top (tall s d) d p vs free room sk q (p + k) (omega arith) (omega arith) e in n (omega arith) (omega arith))
           ∙ sym (over-out (contents c s top d size) p vs q n ∙ contents-at c s top d size q l)
 
-  pub contents-laid : contents (laid c s top (tall s d) p vs) s top d size ≡ over (contents c s top d size) p vs
-  unfolding laid
-  contents-laid = ext-getD 0 _ _ (length-contents _ s top d size ∙ sym (length-over _ p vs ∙ length-contents c s top d size)) (λ q l.
+  pub contents-laidTo : contents new s top d size ≡ over (contents c s top d size) p vs
+  contents-laidTo = ext-getD 0 _ _ (length-contents _ s top d size ∙ sym (length-over _ p vs ∙ length-contents c s top d size)) (λ q l.
       let l′ : q < size = rw length-contents at l in
       contents-at new s top d size q l′ ∙ rw (spot-stays q l′) (byte q l′))

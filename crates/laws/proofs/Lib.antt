@@ -25,6 +25,7 @@ pub mod Longer
 pub mod GiveBack
 pub mod Shorter
 pub mod Laying
+pub mod Rows
 pub mod Others
 pub mod Lengths
 pub mod Bones

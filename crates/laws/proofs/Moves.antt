@@ -7,17 +7,20 @@ use native.Mathlib.Nat.{mod-lt, div-lt-iff-lt-mul}
 use native.Mathlib.Omega.{arith}
 use lib.ListN.{length, getD, take, drop, length-take, take-append-drop}
 use lib.Seq.{ext-getD, getD-take}
-use Rattle.layout.specs.Bytes.{over}
+use Rattle.layout.specs.Bytes.{over, separate}
 use Rattle.layout.specs.Pyramid.{level, height, P}
-use Rattle.layout.specs.Blocks.{fan, node, chain, surplus, rising, Grown, grown, givenBack, loweredTop}
+use Rattle.layout.specs.Blocks.{fan, node, chain, surplus, rising, Grown, grown, givenBack, released, loweredTop}
 use Rattle.layout.specs.Streams.{Desc, dataOf, dataFor, spot, tall, contents, table, tableBytes, stream, streamBytes, inStream, dataAt, lengthened, shortened, tableBlocks, streamBlocks}
-use Rattle.laws.proofs.Picks.{eqb-yes}
+use Rattle.laws.proofs.Picks.{eqb-yes, is-true}
+use Rattle.laws.proofs.Tests.{is-separate}
 use Rattle.laws.proofs.Lists.{In}
 use Rattle.laws.proofs.Levels.{level-mono, height-mono, up-covers, P-mono}
 use Rattle.laws.proofs.Chain.{Good}
 use Rattle.laws.proofs.Hanging.{NotField, header-beyond, two}
-use Rattle.laws.proofs.Shorter.{shorter-same, shorter-node, stays}
-use Rattle.laws.proofs.Laying.{contents-at, contents-laid, length-contents}
+use Rattle.laws.proofs.Shorter.{shorter-same, shorter-node, stays, gone-low}
+use Rattle.laws.proofs.Bones.{surplus-distinct}
+use Rattle.laws.proofs.Laying.{contents-at, length-contents}
+use Rattle.laws.proofs.Rows.{contents-laid}
 use Rattle.laws.proofs.Others.{Kept}
 use Rattle.laws.proofs.Lives.{lives-in}
 use Rattle.laws.proofs.Parts.{Own, ownOf, blocks, text, Parts, Step, step-parts, step-keeps, step-spot, lay, give, grow, grow-longer, parts-own}
@@ -248,6 +251,14 @@ module _ (c : List ℕ) (s : Shape) (w : Core c s) (k : ℕ) (lk : In k (livesOf
         contents-at (givenBack c s gone) s (o′ .top) e′ size q l′ ∙ short-byte q l′
         ∙ sym (getD-take size (contents c s (old .top) (old .d) (old .size)) q 0 l′ ∙ contents-at c s (old .top) (old .d) (old .size) q (omega arith)))
 
+    gives-all : released c s gone ≡ givenBack c s gone
+    unfolding released
+    gives-all =
+        let room = w .parts .room in
+        let sk = w .parts .bones (suc k) here in
+        rw (is-true (separate (s .count) gone) (is-separate (s .count) gone .back
+            (gone-low s g c (old .top) e e′ (chain c s) room sk fewer, surplus-distinct s (two s g) c (old .top) e e′ (chain c s) sk)))
+
     pub shorten : Edit c (shortened c s k size) s k (take size (streamBytes c s k)) [] (rising (s .count) 0 gone ++ chain c s)
     unfolding shortened
-    shorten = rw (← short-text) (redescribe c s w k lk o′ (givenBack c s gone) [] (rising (s .count) 0 gone ++ chain c s) gives refl no-top)
+    shorten = rw (gives-all, ← short-text) (redescribe c s w k lk o′ (givenBack c s gone) [] (rising (s .count) 0 gone ++ chain c s) gives refl no-top)

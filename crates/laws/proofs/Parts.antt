@@ -23,6 +23,7 @@ use Rattle.laws.proofs.GiveBack.{given-else, rising-in}
 use Rattle.laws.proofs.Shorter.{shorter-room, shorter-skeleton, shorter-node, surplus-in, gone-low, gone-out, low-enough}
 use Rattle.laws.proofs.Counting.{length-surplus, length-pyramid, length-rising}
 use Rattle.laws.proofs.Laying.{laid-else, laid-node, laid-skeleton, laid-room, spot-inside, data-in}
+use Rattle.laws.proofs.Rows.{laid-is}
 use Rattle.laws.proofs.Others.{Kept}
 use Rattle.laws.proofs.Lengths.{length-grown, length-given, length-laid}
 use Rattle.laws.proofs.Bones.{skeleton-out, skeleton-none, pyramid-nodes, frame-skeleton, surplus-distinct}
@@ -141,28 +142,29 @@ module _ (s : Shape) (good : Good s) where
   module _ (c ks : List ℕ) (own : ℕ → Own) (k : ℕ) (free : List ℕ) (p : Parts c s ks own free) (i : In k ks) where
     -- bytes laid in a stream leave its blocks
     pub lay-blocks : (at : ℕ) (vs : List ℕ) → at + length vs ≤ own k .d * s .size → blocks (laid c s (own k .top) (tall s (own k .d)) at vs) s (own k) ≡ blocks c s (own k)
-    unfolding laid
     lay-blocks at vs fits =
         let o = own k in
         let h = tall s (o .d) in
         let n = length vs in
-        pyramid-nodes s f2 c (laidTo n c s (o .top) h at vs) (o .top) (o .d) (λ e k′ j u v. laid-node s good c (o .top) h (o .d) at vs free (p .room) (p .bones k i) n e k′ j fits u v)
+        rw (laid-is s good c (o .top) h (o .d) at vs free (p .room) (p .bones k i) fits)
+        (pyramid-nodes s f2 c (laidTo n c s (o .top) h at vs) (o .top) (o .d) (λ e k′ j u v. laid-node s good c (o .top) h (o .d) at vs free (p .room) (p .bones k i) n e k′ j fits u v))
 
     -- bytes laid in a stream
     pub lay : (at : ℕ) (vs : List ℕ) → at + length vs ≤ own k .d * s .size → Step s c (laid c s (own k .top) (tall s (own k .d)) at vs) ks own own k [] free free
-    unfolding laid level
+    unfolding level
     lay at vs fits =
         let o = own k in
         let d = o .d in
         let h = tall s d in
         let n = length vs in
-        record {
+        let is = laid-is s good c (o .top) h d at vs free (p .room) (p .bones k i) fits in
+        rw is (record {
           there = i;
           others = λ j q n. refl;
           room = laid-room s good c (o .top) h d at vs free (p .room) (p .bones k i) n fits;
           fits = p .fits k i;
           bones = laid-skeleton s good c (o .top) h d at vs free (p .room) (p .bones k i) n fits;
-          from = λ b m. inl (rw (lay-blocks at vs fits) at m);
+          from = λ b m. inl (rw (← is, lay-blocks at vs fits) at m);
           taken = λ b m. absurd m;
           freed = λ b m. inl m;
           sum = refl;
@@ -171,7 +173,7 @@ module _ (s : Shape) (good : Good s) where
               (in-pyramid s f2 c (o .top) d h 0 ((at + t) / s .size) (omega arith) (data-in s good c (o .top) h d at vs free (p .room) (p .bones k i) (at + t) (omega arith)))
               (rw w (spot-inside s good c (o .top) h d at vs free (p .room) (p .bones k i) (at + t))));
           long = length-laid s n c (o .top) h at vs;
-        }
+        })
 
     -- fewer blocks
     module _ (own′ : ℕ → Own) (d′ size : ℕ) (fewer : d′ ≤ own k .d) (fits : size ≤ d′ * s .size)

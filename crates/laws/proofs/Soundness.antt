@@ -15,7 +15,7 @@ use Rattle.layout.specs.Filing.{entries, entriesOf}
 use Rattle.layout.specs.Header.{headLength, shapeOf, shiftOf, fixed}
 use Rattle.layout.specs.Sound.{rightDesc, liveForm, freeForm, goodForm, used, reached, rule1, rule2, rule3, rule4, rule5, rule6, rule7, rule8, broken}
 use Rattle.laws.proofs.Lists.{In, Distinct, run-in, in-run, map-in}
-use Rattle.laws.proofs.Tests.{Is, is-itself, is-both, is-pick, is-leb, is-eqb, is-yes, is-all, is-distinct, is-below, is-zero}
+use Rattle.laws.proofs.Tests.{Is, is-itself, is-both, is-pick, is-leb, is-eqb, is-yes, is-all, is-separate, is-zero}
 use Rattle.laws.proofs.Joins.{in-join, join-distinct}
 use Rattle.laws.proofs.Sets.{Same, is-same-set}
 use Rattle.laws.proofs.Entries.{indices}
@@ -46,11 +46,6 @@ is-form s t k =
   where
     known : (descOf t k .top ≢ end8 → ⊥) → descOf t k .top ≡ end8
     known n = elim (ℕ-discrete (descOf t k .top) end8) [ yes e ↦ e | no u ↦ absurd (n u) ]
-
--- all below n, none twice
-pub is-separate : (n : ℕ) (xs : List ℕ) → Is (separate n xs) (((x : ℕ) → In x xs → x < n) × Distinct xs)
-unfolding separate
-is-separate n xs = is-both (is-below n xs) (is-distinct xs)
 
 -- ---- the rules
 

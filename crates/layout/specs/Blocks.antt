@@ -3,7 +3,7 @@ use Prim.Native.Nat.{ℕ, zero, suc, _+_, _-_, _*_, _/_, _%_}
 use mathlib.Core.List.{List, [], _∷_, _++_, map}
 use lib.ListN.{replicate}
 use lib.Dec.{leb, ltb, eqb}
-use Rattle.layout.specs.Bytes.{pick, num, over, put, end4, end8, run, holds}
+use Rattle.layout.specs.Bytes.{pick, num, over, put, end4, end8, run, holds, separate}
 use Rattle.layout.specs.Pyramid.{level, height, above, missing}
 use Rattle.layout.specs.declared.Shape.{Shape}
 
@@ -76,6 +76,10 @@ rising (suc n) b bs = pick (holds b bs) (b ∷ rising n (suc b) bs) (rising n (s
 -- L31: the blocks bs, sorted rising, stand before the old chain
 unfoldable pub givenBack : List ℕ → Shape → List ℕ → List ℕ
 givenBack c s bs = linked c s (firstFree c s) (falling (s .count) bs)
+
+-- given back where they are blocks of the card, each once; on a sound card a pyramid's are
+unfoldable pub released : List ℕ → Shape → List ℕ → List ℕ
+released c s bs = pick (separate (s .count) bs) (givenBack c s bs) c
 
 -- ---- pyramids
 

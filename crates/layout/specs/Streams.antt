@@ -2,11 +2,11 @@
 use mathlib.Core.Bool.{Bool, not}
 use Prim.Native.Nat.{ℕ, zero, suc, _+_, _-_, _*_, _/_, _%_, max}
 use mathlib.Core.List.{List, _++_, map}
-use lib.ListN.{length, getD, set}
+use lib.ListN.{length, getD, set, take, drop}
 use lib.Dec.{eqb}
-use Rattle.layout.specs.Bytes.{num, bytes, over, end8, run, those}
+use Rattle.layout.specs.Bytes.{pick, num, bytes, over, end8, run, those}
 use Rattle.layout.specs.Pyramid.{up, height, P}
-use Rattle.layout.specs.Blocks.{fan, place, node, walk, pyramid, Grown, grown, surplus, givenBack, loweredTop}
+use Rattle.layout.specs.Blocks.{fan, place, slot, node, walk, pyramid, Grown, grown, surplus, released, loweredTop}
 use Rattle.layout.specs.declared.Shape.{Shape}
 
 -- ---- descriptors
@@ -52,8 +52,27 @@ unfoldable pub laidTo : ℕ → List ℕ → Shape → ℕ → ℕ → ℕ → L
 laidTo zero c s top h p vs = c
 laidTo (suc n) c s top h p vs = set (laidTo n c s top h p vs) (spot c s top h (p + n)) (getD vs n 0)
 
+-- The same in the order in which it is done, each place found in the card as it is by then; on a sound card that is no difference.
+-- The bytes vs go into the blocks that slots i, i + 1, .. of block b name, from byte r of the first on; g bounds the blocks
+unfoldable pub laidRow : ℕ → List ℕ → Shape → ℕ → ℕ → ℕ → List ℕ → List ℕ
+laidRow zero c s b i r vs = c
+laidRow (suc g) c s b i r vs =
+    let m = s .size - r in
+    let c′ = over c (place s (slot c s b i) + r) (take m vs) in
+    pick (eqb (length vs) 0) c (laidRow g c′ s b (i + 1) 0 (drop m vs))
+
+-- the bytes vs go below block q of the level h below the top, from slot i and byte r on, and below those after it; g bounds the rows
+unfoldable pub laidRows : ℕ → List ℕ → Shape → ℕ → ℕ → ℕ → ℕ → ℕ → List ℕ → List ℕ
+laidRows zero c s top h q i r vs = c
+laidRows (suc g) c s top h q i r vs =
+    let m = (fan s - i) * s .size - r in
+    let c′ = laidRow (length vs) c s (node c s top h q) i r (take m vs) in
+    pick (eqb (length vs) 0) c (laidRows g c′ s top h (q + 1) 0 0 (drop m vs))
+
+-- the bytes vs go in from place p on, in a pyramid of that height
 unfoldable pub laid : List ℕ → Shape → ℕ → ℕ → ℕ → List ℕ → List ℕ
-laid c s top h p vs = laidTo (length vs) c s top h p vs
+laid c s top zero p vs = over c (place s top + p) vs
+laid c s top (suc h) p vs = laidRows (length vs) c s top h (p / s .size / fan s) (p / s .size % fan s) (p % s .size) vs
 
 -- ---- the table: 8 bytes that name the first free descriptor, then the descriptors
 
@@ -153,7 +172,7 @@ shortened c s k n =
     let t = stream c s k in
     let d = dataOf s t in
     let d′ = dataFor s n in
-    descSet (givenBack c s (surplus c s (t .top) d d′)) s k n (loweredTop c s (t .top) d d′) d′
+    descSet (released c s (surplus c s (t .top) d d′)) s k n (loweredTop c s (t .top) d d′) d′
 
 -- ---- the blocks that belong to whom
 
