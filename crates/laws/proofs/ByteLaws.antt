@@ -5,8 +5,8 @@ use Prim.Native.Nat.{ℕ, zero, suc, _+_, _-_, _*_, _/_, _%_, _^_, _≤_, _<_}
 use native.Mathlib.Nat.{add-zero, zero-add, add-assoc, add-comm, pow-zero, pow-succ', div-add-mod, div-lt-iff-lt-mul}
 use native.Mathlib.Numerals.{add-one}
 use native.Mathlib.Omega.{arith}
-use lib.ListN.{length, getD, set, take, length-set, length-take}
-use lib.Seq.{getD-set-same, getD-set-other, ext-getD, getD-take}
+use lib.ListN.{length, getD, set, take, length-set, length-take, List·getD-eq-default}
+use lib.Seq.{getD-set-same, getD-set-other, ext-getD, getD-take, set-out}
 use Rattle.layout.specs.Bytes.{num, bytes, over, put}
 
 pub length-over : (l : List ℕ) (at : ℕ) (vs : List ℕ) → length (over l at vs) ≡ length l
@@ -107,3 +107,15 @@ pub take-over : (l xs : List ℕ) (n : ℕ) → n ≡ length xs → n ≤ length
 take-over l xs n e h = ext-getD 0 _ _ (rw (length-take, length-over) (omega arith)) (λ i b.
     let b′ : i < n = omega (arith, rw (length-take, length-over) at b) in
     getD-take n (over l 0 xs) i 0 b′ ∙ over-in l 0 xs i i (omega arith) (omega arith) (omega arith))
+
+-- ---- past the end
+
+pub num-past : (n : ℕ) (l : List ℕ) (at : ℕ) → length l ≤ at → num n l at ≡ 0
+unfolding num
+num-past zero l at h = refl
+num-past (suc n) l at h = omega (arith, List·getD-eq-default l 0 h, num-past n l (at + 1) (omega arith))
+
+pub over-past : (vs l : List ℕ) (at : ℕ) → length l ≤ at → over l at vs ≡ l
+unfolding over
+over-past [] l at h = refl
+over-past (v ∷ vs) l at h = rw (set-out l at v h) (over-past vs l (at + 1) (omega arith))

@@ -23,6 +23,7 @@ pub mod Growing
 pub mod OneMore
 pub mod Longer
 pub mod GiveBack
+pub mod Marking
 pub mod Shorter
 pub mod Laying
 pub mod Rows

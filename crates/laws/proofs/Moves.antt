@@ -257,7 +257,7 @@ module _ (c : List ℕ) (s : Shape) (w : Core c s) (k : ℕ) (lk : In k (livesOf
         let room = w .parts .room in
         let sk = w .parts .bones (suc k) here in
         rw (is-true (separate (s .count) gone) (is-separate (s .count) gone .back
-            (gone-low s g c (old .top) e e′ (chain c s) room sk fewer, surplus-distinct s (two s g) c (old .top) e e′ (chain c s) sk)))
+        (gone-low s g c (old .top) e e′ (chain c s) room sk fewer, surplus-distinct s (two s g) c (old .top) e e′ (chain c s) sk)))
 
     pub shorten : Edit c (shortened c s k size) s k (take size (streamBytes c s k)) [] (rising (s .count) 0 gone ++ chain c s)
     unfolding shortened

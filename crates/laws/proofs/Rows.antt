@@ -1,15 +1,14 @@
 -- Laying in the order in which it is done, row by row and block by block, is laying every byte where it stood at first: no data block is a redirector.
 use mathlib.Core.Path.{_≡_, refl, sym, ap, _∙_}
-use mathlib.Core.Logic.{_≢_}
-use mathlib.Core.List.{List, [], _∷_, _++_}
+use mathlib.Core.List.{List, [], _∷_}
 use Prim.Native.Nat.{ℕ, zero, suc, _+_, _-_, _*_, _/_, _%_, _≤_, _<_}
 use native.Mathlib.Nat.{mod-lt, div-add-mod', mul-le-mul-right, add-mul, add-zero, add-suc}
 use native.Mathlib.Decide.{ℕ-discrete, decLe}
 use native.Mathlib.Omega.{arith}
-use lib.ListN.{length, getD, set, take, drop, length-take, length-drop, drop-of-length-le}
+use lib.ListN.{length, getD, take, drop, length-take, length-drop}
 use lib.Seq.{getD-drop, take-nil, take-suc, take-take, take-all, drop-drop}
-use Rattle.layout.specs.Bytes.{pick, over}
-use Rattle.layout.specs.Pyramid.{level, height}
+use Rattle.layout.specs.Bytes.{over}
+use Rattle.layout.specs.Pyramid.{level}
 use Rattle.layout.specs.Blocks.{fan, place, slot, node}
 use Rattle.layout.specs.Streams.{spot, tall, contents, laidTo, laidRow, laidRows, laid}
 use Rattle.laws.proofs.Picks.{eqb-yes, eqb-no}
@@ -97,7 +96,7 @@ module _ (s : Shape) (good : Good s) (c : List ℕ) (top h d p : ℕ) (vs free :
     unfolding laidRow
     row zero n w q i r a b u e f = let z : n ≡ n + w = omega arith in ap L z
     row (suc g) n w q i r a b u e f = elim (ℕ-discrete w 0) [
-        yes z ↦ rw (z, add-zero n) (row-none (suc g) (L n) s (node c s top h′ q) i r [] refl)
+      | yes z ↦ rw (z, add-zero n) (row-none (suc g) (L n) s (node c s top h′ q) i r [] refl)
       | no z ↦ (
           let ws = take w (drop n vs) in
           let j = q * fan s + i in
@@ -109,13 +108,15 @@ module _ (s : Shape) (good : Good s) (c : List ℕ) (top h d p : ℕ) (vs free :
           let at-is : place s (slot (L n) s (node c s top h′ q) i) + r ≡ spot c s top h (p + n) = rw (slot-is n q i (omega arith) i-low j-low, dv, md) in
           let m = s .size - r in
           rw (eqb-no {a = length ws} {b = 0} (omega arith), at-is) (elim (decLe w m) [
-              yes x ↦ rw (take-all m ws (omega arith), ← chunk n w b (omega arith)) (row-none g (L (n + w)) s (node c s top h′ q) (i + 1) 0 (drop m ws) (rw length-drop (omega arith)))
+            | yes x ↦ rw (take-all m ws (omega arith), ← chunk n w b (omega arith)) (row-none g (L (n + w)) s (node c s top h′ q) (i + 1) 0 (drop m ws) (rw length-drop (omega arith)))
             | no x ↦ (let t : take m ws ≡ take m (drop n vs) = take-take m w (drop n vs) (omega arith) in
                 let rest : drop m ws ≡ take (w - m) (drop (n + m) vs) = cut-part m w (drop n vs) (omega arith) ∙ ap (take (w - m)) (drop-drop m n vs) in
                 let sum : n + m + (w - m) ≡ n + w = omega arith in
                 let next : p + (n + m) ≡ (q * fan s + (i + 1)) * s .size + 0 = omega arith in
                 let room-left : (i + 1) * s .size + 0 + (w - m) ≤ fan s * s .size = omega arith in
-                rw (t, ← chunk n m (omega arith) (omega arith), rest) (row g (n + m) (w - m) q (i + 1) 0 (omega arith) (omega arith) big next room-left ∙ ap L sum)) ])) ]
+                rw (t, ← chunk n m (omega arith) (omega arith), rest) (row g (n + m) (w - m) q (i + 1) 0 (omega arith) (omega arith) big next room-left ∙ ap L sum))
+          ]))
+    ]
 
     -- ---- and row by row
 
@@ -124,7 +125,7 @@ module _ (s : Shape) (good : Good s) (c : List ℕ) (top h d p : ℕ) (vs free :
     unfolding laidRows
     rows zero n q i r a b u v e = let z : n ≡ length vs = omega arith in ap L z
     rows (suc g) n q i r a b u v e = elim (ℕ-discrete n (length vs)) [
-        yes z ↦ rows-none (suc g) (L n) s top h′ q i r (drop n vs) (rw length-drop (omega arith)) ∙ ap L z
+      | yes z ↦ rows-none (suc g) (L n) s top h′ q i r (drop n vs) (rw length-drop (omega arith)) ∙ ap L z
       | no z ↦ (
           let ds = drop n vs in
           let ld : length ds ≡ length vs - n = length-drop n vs in
@@ -134,16 +135,19 @@ module _ (s : Shape) (good : Good s) (c : List ℕ) (top h d p : ℕ) (vs free :
           let dv : (p + n) / s .size ≡ q * fan s + i = div-is {r = r} e u in
           let j-low : q * fan s + i < d = rw dv at (data-in s good c top h d p vs free room sk (p + n) (omega arith)) in
           rw (eqb-no {a = length ds} {b = 0} (omega arith), low-is n q i b v j-low) (elim (decLe (length ds) m) [
-              yes x ↦ (let t : take m ds ≡ take (length ds) ds = take-all m ds x ∙ sym (take-all (length ds) ds (omega arith)) in
-                  let end : n + length ds ≡ length vs = omega arith in
-                  rw (t, row (length ds) n (length ds) q i r (omega arith) (omega arith) u e (omega arith))
-                    (rows-none g (L (n + length ds)) s top h′ (q + 1) 0 0 (drop m ds) (rw length-drop (omega arith)) ∙ ap L end))
+            | yes x ↦ (let t : take m ds ≡ take (length ds) ds = take-all m ds x ∙ sym (take-all (length ds) ds (omega arith)) in
+                let end : n + length ds ≡ length vs = omega arith in
+                rw (t, row (length ds) n (length ds) q i r (omega arith) (omega arith) u e (omega arith))
+                (rows-none g (L (n + length ds)) s top h′ (q + 1) 0 0 (drop m ds) (rw length-drop (omega arith)) ∙ ap L end))
             | no x ↦ (let next : p + (n + m) ≡ ((q + 1) * fan s + 0) * s .size + 0 = over-row q i r m whole e (omega arith) in
                 rw (row (length ds) n m q i r (omega arith) (omega arith) u e (omega arith), drop-drop m n vs)
-                  (rows g (n + m) (q + 1) 0 0 (omega arith) (omega arith) big (omega (arith, two s good)) next)) ])) ]
+                (rows g (n + m) (q + 1) 0 0 (omega arith) (omega arith) big (omega (arith, two s good)) next))
+          ]))
+    ]
       where
         split-up : (i : ℕ) → i < fan s → i * s .size + (fan s - i) * s .size ≡ fan s * s .size
         split-up i l = let t : i + (fan s - i) ≡ fan s = omega arith in sym (add-mul i (fan s - i) (s .size)) ∙ ap (λ (x : ℕ). x * s .size) t
+
         over-row : (q i r m : ℕ) → i * s .size + (fan s - i) * s .size ≡ fan s * s .size → p + n ≡ (q * fan s + i) * s .size + r → r + m ≡ (fan s - i) * s .size
             → p + (n + m) ≡ ((q + 1) * fan s + 0) * s .size + 0
         over-row q i r m a b e =
@@ -158,13 +162,14 @@ module _ (s : Shape) (good : Good s) (c : List ℕ) (top h d p : ℕ) (vs free :
   single : h ≡ 0 → d ≤ 1
   unfolding node level
   single e = elim (decLe d 1) [
-      yes l ↦ l
-    | no l ↦ absurd (let z = sk .apart 0 0 0 0 0 1 (omega arith) (omega arith) (omega arith) (omega arith) refl in omega (arith, z .1)) ]
+    | yes l ↦ l
+    | no l ↦ absurd (let z = sk .apart 0 0 0 0 0 1 (omega arith) (omega arith) (omega arith) (omega arith) refl in omega (arith, z .1))
+  ]
 
   flat : h ≡ 0 → over c (place s top + p) vs ≡ L (length vs)
   unfolding node laidTo over
   flat e = elim (ℕ-discrete (length vs) 0) [
-      yes z ↦ rw (nil vs z)
+    | yes z ↦ rw (nil vs z)
     | no z ↦ (
         let one : d * s .size ≤ s .size = omega (arith, mul-le-mul-right (s .size) (single e)) in
         let low : p < s .size = omega arith in
@@ -174,7 +179,8 @@ module _ (s : Shape) (good : Good s) (c : List ℕ) (top h d p : ℕ) (vs free :
         let at-is : spot c s top h (p + 0) ≡ place s top + p = rw (e₀, dv, md, e) in
         let all : take (length vs) vs ≡ vs = take-all (length vs) vs (omega arith) in
         let sum : 0 + length vs ≡ length vs = omega arith in
-        sym (ap L (sym sum) ∙ chunk 0 (length vs) (omega arith) (rw (e₀, md) (omega arith)) ∙ rw (at-is, all))) ]
+        sym (ap L (sym sum) ∙ chunk 0 (length vs) (omega arith) (rw (e₀, md) (omega arith)) ∙ rw (at-is, all)))
+  ]
     where
       nil : (l : List ℕ) → length l ≡ 0 → l ≡ []
       nil [] e = refl
@@ -192,7 +198,7 @@ module _ (s : Shape) (good : Good s) (c : List ℕ) (top h d p : ℕ) (vs free :
       let j = p / s .size in
       let f0 : 0 < fan s = omega (arith, two s good) in
       let at-is : p + 0 ≡ (j / fan s * fan s + j % fan s) * s .size + p % s .size =
-          rw (div-add-mod' j (fan s)) (omega (arith, div-add-mod' p (s .size))) in
+      rw (div-add-mod' j (fan s)) (omega (arith, div-add-mod' p (s .size))) in
       rows h′ e (length vs) 0 (j / fan s) (j % fan s) (p % s .size) (omega arith) (omega arith) (mod-lt p big) (mod-lt j f0) at-is
 
   pub laid-is : laid c s top h p vs ≡ laidTo (length vs) c s top h p vs

@@ -1,7 +1,8 @@
 -- Blocks: where they are, the free chain, taking and giving back; the pyramid over a stream's blocks, and its growth.
+use mathlib.Core.Bool.{Bool}
 use Prim.Native.Nat.{ℕ, zero, suc, _+_, _-_, _*_, _/_, _%_}
 use mathlib.Core.List.{List, [], _∷_, _++_, map}
-use lib.ListN.{replicate}
+use lib.ListN.{length, replicate}
 use lib.Dec.{leb, ltb, eqb}
 use Rattle.layout.specs.Bytes.{pick, num, over, put, end4, end8, run, holds, separate}
 use Rattle.layout.specs.Pyramid.{level, height, above, missing}
@@ -47,6 +48,10 @@ next c s b = wide (num 4 c (place s b))
 -- L28: the free blocks in the chain's order. One step more than there are blocks: a chain that does not end is too long
 unfoldable pub chain : List ℕ → Shape → List ℕ
 chain c s = walk (s .count + 1) (next c s) (firstFree c s)
+
+-- whether n blocks are free, found out in at most n steps
+unfoldable pub enough : List ℕ → Shape → ℕ → Bool
+enough c s n = leb n (length (walk n (next c s) (firstFree c s)))
 
 -- ---- taking and giving back
 

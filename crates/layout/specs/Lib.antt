@@ -1,5 +1,6 @@
 pub mod Limits
 pub mod Bytes
+pub mod Marks
 pub mod Pyramid
 pub mod Blocks
 pub mod Streams
@@ -9,4 +10,5 @@ pub mod Sound
 pub mod Answers
 pub mod Calls
 pub mod Promises
+pub mod Ranges
 pub mod Cases

@@ -5,19 +5,14 @@ use Prim.Native.Nat.{ℕ, zero, suc, _+_, _-_, _*_, _/_, _%_, _^_, min, _≤_, _
 use native.Mathlib.Nat.{pow-suc, pow-le-pow-right}
 use native.Mathlib.Numerals.{add-one, sub-one}
 use native.Mathlib.Omega.{arith}
-use lib.ListN.{length, getD, set, take, drop, replicate, drop-of-length-le, length-set, List·getD-eq-default, length-drop, length-take, length-replicate}
-use lib.Seq.{set-out, take-nil, take-take, take-add, drop-drop, drop-cons}
+use lib.ListN.{length, getD, set, take, drop, replicate, drop-of-length-le, length-set, length-drop, length-take, length-replicate}
+use lib.Seq.{take-nil, take-take, take-add, drop-drop, drop-cons}
 use Rattle.layout.specs.Bytes.{num, bytes, over, put, matches}
-use Rattle.laws.proofs.ByteLaws.{length-bytes, over-append, take-over}
+use Rattle.laws.proofs.ByteLaws.{over-past, length-bytes, over-append, take-over}
 use borrow.Author.Tests.{eq-eqb, ne-eqb}
 use mathlib.Core.Bool.{true, false}
 
 -- ---- num
-
-pub num-out : (n : ℕ) (l : List ℕ) (at : ℕ) → length l ≤ at → num n l at ≡ 0
-unfolding num
-num-out zero l at h = refl
-num-out (suc n) l at h = omega (arith, List·getD-eq-default l 0 h, num-out n l (at + 1) (omega arith))
 
 -- one byte more in front
 pub num-step : (n : ℕ) (l : List ℕ) (p v b : ℕ) → 1 ≤ p → v ≡ num n l p → b ≡ getD l (p - 1) 0 → v * 256 + b ≡ num (n + 1) l (p - 1)
@@ -32,16 +27,11 @@ pow-fits n v b h k m = omega (arith, pow-step n v b h k, pow-le-pow-right {n = 2
 
 -- ---- over
 
-pub over-out : (vs l : List ℕ) (at : ℕ) → length l ≤ at → over l at vs ≡ l
-unfolding over
-over-out [] l at h = refl
-over-out (v ∷ vs) l at h = rw (set-out l at v h) (over-out vs l (at + 1) (omega arith))
-
 -- what goes past the end may be left out
 pub over-take : (vs l : List ℕ) (at m : ℕ) → min (length vs) (length l - at) ≤ m → over l at (take m vs) ≡ over l at vs
 unfolding over
 over-take [] l at m h = rw (take-nil m) refl
-over-take (v ∷ vs) l at zero h = sym (over-out (v ∷ vs) l at (omega arith))
+over-take (v ∷ vs) l at zero h = sym (over-past (v ∷ vs) l at (omega arith))
 over-take (v ∷ vs) l at (suc m) h = over-take vs (set l at v) (at + 1) m (rw (length-set l at v) (omega arith))
 
 take-replicate : (a m n : ℕ) → m ≤ n → take m (replicate n a) ≡ replicate m a

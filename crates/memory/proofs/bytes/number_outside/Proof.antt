@@ -5,7 +5,8 @@ use Prim.Native.Nat.{_+_, _-_, _^_, _≤_, _<_}
 use native.Mathlib.Nat.{one-le-pow}
 use native.Mathlib.Omega.{arith}
 use Rattle.layout.specs.Bytes.{num}
-use Rattle.memory.proofs.Turns.{num-out, num-zero, num-step, num-same, pow-step, pow-fits}
+use Rattle.laws.proofs.ByteLaws.{num-past}
+use Rattle.memory.proofs.Turns.{num-zero, num-step, num-same, pow-step, pow-fits}
 use Rattle.memory.proofs.bytes.number_outside.Statement.{statement}
 use Rattle.memory.proofs.bytes.number_outside.Tie as tie
 
@@ -19,7 +20,7 @@ returns : tie.Need-returns Inv-loop μ-loop
 returns c =
     let at-if1 = c .if1 in
     let at-start = c .before .before in
-    (sym (num-out _ _ _ (at-if1 .taken)), one-le-pow (at-start .args .width) 256 (omega arith))
+    (sym (num-past _ _ _ (at-if1 .taken)), one-le-pow (at-start .args .width) 256 (omega arith))
 
 add-p : tie.Need-add-p Inv-loop μ-loop
 add-p c = search needs

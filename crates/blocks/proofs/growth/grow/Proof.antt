@@ -1,0 +1,67 @@
+-- `blocks::growth::grow` keeps its promise.
+use borrow.Author.Needs.{needs}
+use mathlib.Core.Path.{_≡_, refl, ap, _∙_}
+use Prim.Native.Nat.{_+_}
+use native.Mathlib.Omega.{arith}
+use lib.ListN.{length}
+use Rattle.layout.specs.Blocks.{grown}
+use Rattle.blocks.proofs.Near.{small-same}
+use Rattle.blocks.proofs.Growing.{grown-end, grown-step}
+use Rattle.blocks.proofs.growth.grow.Statement.{statement}
+use Rattle.blocks.proofs.growth.grow.Tie as tie
+
+abbrev Inv-loop : tie.InvT-loop
+Inv-loop card₀ s top d m t₀ k₀ left₀ card t k left = (k + left ≡ d + m) × (length card ≡ length card₀) × (grown card s t k left ≡ grown card₀ s top d m)
+
+abbrev μ-loop : tie.MeasureT-loop
+μ-loop card₀ s top d m t₀ k₀ left₀ card t k left = left
+
+loop-holds : tie.Need-loop-holds Inv-loop μ-loop
+loop-holds c = (refl, refl, refl)
+
+grow-one-requires : tie.Need-grow-one-requires Inv-loop μ-loop
+grow-one-requires c κs =
+    let at-start = c .before .before .before .before in
+    let at-loop = c .before .before .loop in
+    (small-same (at-start .pre .0) (at-loop .inv .1), omega arith)
+
+add-k : tie.Need-add-k Inv-loop μ-loop
+add-k c = search needs
+
+sub-left : tie.Need-sub-left Inv-loop μ-loop
+sub-left c = search needs
+
+loop-less : tie.Need-loop-less Inv-loop μ-loop
+loop-less c = search needs
+
+loop-again : tie.Need-loop-again Inv-loop μ-loop
+loop-again c =
+    let at-loop-test = c .before .before .before .before .loop-test in
+    let at-grow-one = c .before .before .grow-one in
+    let at-loop = c .before .before .before .before .before .loop in
+    (omega arith, search needs, grown-step _ _ _ _ _ _ _ (at-loop-test .taken) (at-grow-one .ensures .0) (at-grow-one .ensures .1) ∙ at-loop .inv .2)
+
+same-length : tie.Need-same-length Inv-loop μ-loop
+same-length c = search needs
+
+returns : tie.Need-returns Inv-loop μ-loop
+returns c =
+    let at-loop-test = c .loop-test in
+    let at-loop = c .before .loop in
+    let last = grown-end _ _ _ _ _ (at-loop-test .left) in
+    (last .0 ∙ ap (λ g. g .top) (at-loop .inv .2), last .1 ∙ ap (λ g. g .card) (at-loop .inv .2))
+
+pub grow-spec : {M : Type 1} → statement M
+grow-spec =
+    tie.close
+    (tie.spec
+    Inv-loop
+    μ-loop
+    loop-holds
+    grow-one-requires
+    add-k
+    sub-left
+    loop-less
+    loop-again
+    same-length
+    returns)
