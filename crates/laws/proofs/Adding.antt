@@ -10,7 +10,8 @@ use lib.ListN.{length, getD}
 use Rattle.layout.specs.Limits.{mostStreams}
 use Rattle.layout.specs.Bytes.{run}
 use Rattle.layout.specs.Blocks.{chain}
-use Rattle.layout.specs.Streams.{Desc, contents, table, tableBytes, offset, stream, streamBytes, tableBlocks, streamBlocks}
+use Rattle.layout.specs.Streams.{contents, table, tableBytes, offset, stream, streamBytes, tableBlocks, streamBlocks}
+use Rattle.layout.specs.declared.Desc.{Desc}
 use Rattle.laws.proofs.Lists.{In, in-map, map-in}
 use Rattle.laws.proofs.Levels.{up-zero}
 use Rattle.laws.proofs.Chain.{Good, room-chain}

@@ -7,7 +7,8 @@ use native.Mathlib.Omega.{arith}
 use lib.ListN.{length, getD, replicate, length-append, getD-replicate, List·getD-append}
 use lib.Seq.{getD-append-add}
 use Rattle.layout.specs.Bytes.{num, bytes, over}
-use Rattle.layout.specs.Streams.{Desc, descIn, fields}
+use Rattle.layout.specs.Streams.{descIn, fields}
+use Rattle.layout.specs.declared.Desc.{Desc}
 use Rattle.laws.proofs.ByteLaws.{num-agree, num-at, num-over, over-in, over-out, length-bytes}
 use Rattle.layout.specs.declared.Shape.{Shape}
 

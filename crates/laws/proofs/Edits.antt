@@ -12,7 +12,8 @@ use lib.Dec.{eqb}
 use Rattle.layout.specs.Bytes.{pick, over, end8}
 use Rattle.layout.specs.Pyramid.{level}
 use Rattle.layout.specs.Blocks.{fan, node, chain}
-use Rattle.layout.specs.Streams.{Desc, dataOf, dataFor, fields, spot, tall, table, tableBytes, offset, slots, descOf, lives, dead, live, firstDesc, descChain, descSet, stream, streamBytes, tableBlocks, streamBlocks}
+use Rattle.layout.specs.Streams.{dataOf, dataFor, fields, spot, tall, table, tableBytes, offset, slots, descOf, lives, dead, live, firstDesc, descChain, descSet, stream, streamBytes, tableBlocks, streamBlocks}
+use Rattle.layout.specs.declared.Desc.{Desc}
 use Rattle.laws.proofs.Picks.{eqb-yes, eqb-no, is-true}
 use Rattle.laws.proofs.ByteLaws.{num-over, length-over}
 use Rattle.laws.proofs.Lists.{In, in-left, in-right, run-in}

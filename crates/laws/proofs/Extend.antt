@@ -11,7 +11,8 @@ use Rattle.layout.specs.Limits.{mostStreams}
 use Rattle.layout.specs.Bytes.{over, end8}
 use Rattle.layout.specs.Pyramid.{P}
 use Rattle.layout.specs.Blocks.{fan, node, firstFree, next, chain, Grown, grown}
-use Rattle.layout.specs.Streams.{Desc, dataOf, dataFor, dataAt, fields, spot, tall, table, tableBytes, offset, descOf, firstDesc, descChain, inTable, tableSet, tableLengthened, stream, tableBlocks}
+use Rattle.layout.specs.Streams.{dataOf, dataFor, dataAt, fields, spot, tall, table, tableBytes, offset, descOf, firstDesc, descChain, inTable, tableSet, tableLengthened, stream, tableBlocks}
+use Rattle.layout.specs.declared.Desc.{Desc}
 use Rattle.laws.proofs.ByteLaws.{num-agree, num-over, over-out, length-over}
 use Rattle.laws.proofs.Lists.{In}
 use Rattle.laws.proofs.Joins.{total-has}

@@ -7,7 +7,8 @@ use native.Mathlib.Decide.{ℕ-discrete}
 use native.Mathlib.Omega.{arith}
 use Rattle.layout.specs.Bytes.{num, end8}
 use Rattle.layout.specs.Blocks.{walk}
-use Rattle.layout.specs.Streams.{Desc, offset, slots, descOf, frees, firstDesc, descChain}
+use Rattle.layout.specs.Streams.{offset, slots, descOf, frees, firstDesc, descChain}
+use Rattle.layout.specs.declared.Desc.{Desc}
 use Rattle.laws.proofs.Lists.{In, Distinct}
 use Rattle.laws.proofs.Links.{Links, walk-links, links-walk, links-same}
 use Rattle.laws.proofs.Sets.{Same, distinct-le, same-of, same-back}

@@ -6,7 +6,8 @@ use Prim.Native.Nat.{ℕ, suc, _+_, _-_, _*_, _≤_, _<_}
 use native.Mathlib.Omega.{arith}
 use lib.ListN.{length, getD}
 use Rattle.layout.specs.Bytes.{over}
-use Rattle.layout.specs.Streams.{Desc, dataOf, spot, tall, laid, table, tableBytes, inTable, tableBlocks}
+use Rattle.layout.specs.Streams.{dataOf, spot, tall, laid, table, tableBytes, inTable, tableBlocks}
+use Rattle.layout.specs.declared.Desc.{Desc}
 use Rattle.laws.proofs.Lists.{In}
 use Rattle.laws.proofs.Chain.{Good}
 use Rattle.laws.proofs.Hanging.{NotField, Beyond, header-beyond}

@@ -10,7 +10,8 @@ use lib.Seq.{ext-getD, getD-take}
 use Rattle.layout.specs.Bytes.{over, separate}
 use Rattle.layout.specs.Pyramid.{level, height, P}
 use Rattle.layout.specs.Blocks.{fan, node, chain, surplus, rising, Grown, grown, givenBack, released, loweredTop}
-use Rattle.layout.specs.Streams.{Desc, dataOf, dataFor, spot, tall, contents, table, tableBytes, stream, streamBytes, inStream, dataAt, lengthened, shortened, tableBlocks, streamBlocks}
+use Rattle.layout.specs.Streams.{dataOf, dataFor, spot, tall, contents, table, tableBytes, stream, streamBytes, inStream, dataAt, lengthened, shortened, tableBlocks, streamBlocks}
+use Rattle.layout.specs.declared.Desc.{Desc}
 use Rattle.laws.proofs.Picks.{eqb-yes, is-true}
 use Rattle.laws.proofs.Tests.{is-separate}
 use Rattle.laws.proofs.Lists.{In}
@@ -251,7 +252,7 @@ module _ (c : List ℕ) (s : Shape) (w : Core c s) (k : ℕ) (lk : In k (livesOf
         contents-at (givenBack c s gone) s (o′ .top) e′ size q l′ ∙ short-byte q l′
         ∙ sym (getD-take size (contents c s (old .top) (old .d) (old .size)) q 0 l′ ∙ contents-at c s (old .top) (old .d) (old .size) q (omega arith)))
 
-    gives-all : released c s gone ≡ givenBack c s gone
+    pub gives-all : released c s gone ≡ givenBack c s gone
     unfolding released
     gives-all =
         let room = w .parts .room in

@@ -27,7 +27,8 @@ use Rattle.laws.proofs.Rows.{laid-is}
 use Rattle.laws.proofs.Others.{Kept}
 use Rattle.laws.proofs.Lengths.{length-grown, length-given, length-laid}
 use Rattle.laws.proofs.Bones.{skeleton-out, skeleton-none, pyramid-nodes, frame-skeleton, surplus-distinct}
-use Rattle.layout.specs.Streams.{Desc, dataOf, tall, spot, contents, laidTo, laid}
+use Rattle.layout.specs.Streams.{dataOf, tall, spot, contents, laidTo, laid}
+use Rattle.layout.specs.declared.Desc.{Desc}
 use Rattle.layout.specs.declared.Shape.{Shape}
 
 -- where a stream is

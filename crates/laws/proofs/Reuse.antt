@@ -8,7 +8,8 @@ use native.Mathlib.Omega.{arith}
 use lib.ListN.{replicate}
 use Rattle.layout.specs.Bytes.{num, bytes, over, put, end8}
 use Rattle.layout.specs.Blocks.{chain}
-use Rattle.layout.specs.Streams.{Desc, tableBytes, offset, slots, descOf, firstDesc, descChain, inTable, stream}
+use Rattle.layout.specs.Streams.{tableBytes, offset, slots, descOf, firstDesc, descChain, inTable, stream}
+use Rattle.layout.specs.declared.Desc.{Desc}
 use Rattle.laws.proofs.ByteLaws.{num-over, num-put-same, length-bytes, length-over}
 use Rattle.laws.proofs.Lists.{In}
 use Rattle.laws.proofs.Descs.{desc-away, blank, zeros-at}

@@ -10,7 +10,8 @@ use lib.Dec.{T}
 use Rattle.layout.specs.Limits.{leastShift, mostShift, mostBlocks, mostStreams}
 use Rattle.layout.specs.Bytes.{end8, run, separate, join}
 use Rattle.layout.specs.Blocks.{chain}
-use Rattle.layout.specs.Streams.{Desc, dataOf, dataFor, table, tableBytes, offset, slots, descOf, frees, descChain, stream, streamBytes, tableBlocks}
+use Rattle.layout.specs.Streams.{dataOf, dataFor, table, tableBytes, offset, slots, descOf, frees, descChain, stream, streamBytes, tableBlocks}
+use Rattle.layout.specs.declared.Desc.{Desc}
 use Rattle.layout.specs.Filing.{entries, entriesOf}
 use Rattle.layout.specs.Header.{headLength, shapeOf, shiftOf, fixed}
 use Rattle.layout.specs.Sound.{rightDesc, liveForm, freeForm, goodForm, used, reached, rule1, rule2, rule3, rule4, rule5, rule6, rule7, rule8, broken}

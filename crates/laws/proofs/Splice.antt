@@ -6,13 +6,10 @@ use native.Mathlib.Decide.{decLt}
 use native.Mathlib.Omega.{arith}
 use lib.ListN.{length, getD, take, drop, length-take, length-drop, length-append, drop-of-length-le, take-append-drop, List·getD-append}
 use lib.Seq.{ext-getD, getD-take, getD-drop, getD-append-add, take-all, take-at}
-use Rattle.layout.specs.Bytes.{over}
+use Rattle.layout.specs.Bytes.{over, spliced}
 use Rattle.laws.proofs.ByteLaws.{over-in, over-out, length-over}
 
 -- the front, the new bytes, and what is left behind them
-unfoldable pub spliced : List ℕ → ℕ → List ℕ → List ℕ
-spliced l p vs = take p l ++ (vs ++ drop (p + length vs) l)
-
 append-at : (xs ys : List ℕ) (n q : ℕ) → q ≡ length xs + n → getD (xs ++ ys) q 0 ≡ getD ys n 0
 append-at xs ys n q e = rw e (getD-append-add xs ys n 0)
 

@@ -10,7 +10,8 @@ use lib.Dec.{T}
 use Rattle.layout.specs.Limits.{leastShift, mostShift, mostBlocks, mostStreams}
 use Rattle.layout.specs.Bytes.{end8, join}
 use Rattle.layout.specs.Blocks.{chain}
-use Rattle.layout.specs.Streams.{Desc, dataOf, dataFor, table, tableBytes, offset, slots, lives, frees, descChain, stream, streamBytes, tableBlocks, streamBlocks}
+use Rattle.layout.specs.Streams.{dataOf, dataFor, table, tableBytes, offset, slots, lives, frees, descChain, stream, streamBytes, tableBlocks, streamBlocks}
+use Rattle.layout.specs.declared.Desc.{Desc}
 use Rattle.layout.specs.Filing.{entries}
 use Rattle.layout.specs.Header.{headLength, shapeOf, shiftOf, fixed}
 use Rattle.layout.specs.Sound.{used}

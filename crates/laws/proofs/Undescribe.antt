@@ -8,7 +8,8 @@ use native.Mathlib.Omega.{arith}
 use lib.ListN.{length, getD}
 use Rattle.layout.specs.Bytes.{num, bytes, over, put, end8}
 use Rattle.layout.specs.Blocks.{chain}
-use Rattle.layout.specs.Streams.{Desc, dataOf, tableBytes, offset, slots, descOf, firstDesc, descChain, inTable, stream, streamBytes, tableBlocks, streamBlocks}
+use Rattle.layout.specs.Streams.{dataOf, tableBytes, offset, slots, descOf, firstDesc, descChain, inTable, stream, streamBytes, tableBlocks, streamBlocks}
+use Rattle.layout.specs.declared.Desc.{Desc}
 use Rattle.laws.proofs.ByteLaws.{num-put-same, length-bytes, length-over}
 use Rattle.laws.proofs.Lists.{In, in-map, map-in}
 use Rattle.laws.proofs.Levels.{up-zero}

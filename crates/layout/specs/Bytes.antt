@@ -2,7 +2,7 @@
 use mathlib.Core.Bool.{Bool, true, false, not}
 use Prim.Native.Nat.{ℕ, zero, suc, _+_, _*_, _/_, _%_}
 use mathlib.Core.List.{List, [], _∷_, _++_}
-use lib.ListN.{getD, set}
+use lib.ListN.{length, getD, set, take, drop}
 use lib.Dec.{ltb, eqb}
 
 -- ---- tests and choices
@@ -48,6 +48,10 @@ over l at (v ∷ vs) = over (set l at v) (at + 1) vs
 -- L2: l with the number v in the n bytes at `at`
 unfoldable pub put : ℕ → List ℕ → ℕ → ℕ → List ℕ
 put n l at v = over l at (bytes n v)
+
+-- the bytes vs over l from place p on, perhaps past its end
+unfoldable pub spliced : List ℕ → ℕ → List ℕ → List ℕ
+spliced l p vs = take p l ++ (vs ++ drop (p + length vs) l)
 
 -- the bytes vs stand at `at`
 unfoldable pub matches : List ℕ → ℕ → List ℕ → Bool

@@ -8,17 +8,11 @@ use Rattle.layout.specs.Bytes.{pick, num, bytes, over, end8, run, those}
 use Rattle.layout.specs.Pyramid.{up, height, P}
 use Rattle.layout.specs.Blocks.{fan, place, slot, node, walk, pyramid, Grown, grown, surplus, released, loweredTop}
 use Rattle.layout.specs.declared.Shape.{Shape}
+use Rattle.layout.specs.declared.Desc.{Desc}
 
 -- ---- descriptors
 
--- L42: a descriptor's fields
-pub record Desc : Type 0 where
-  pub size : ℕ
-  pub top : ℕ
-  pub reserved : ℕ
-  pub flags : ℕ
-
--- the descriptor in the 25 bytes at `at`
+-- L42: the descriptor in the 25 bytes at `at`
 unfoldable pub descIn : List ℕ → ℕ → Desc
 descIn l at = record { size = num 8 l at; top = num 8 l (at + 8); reserved = num 8 l (at + 16); flags = getD l (at + 24) 0 }
 

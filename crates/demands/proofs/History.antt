@@ -1,0 +1,86 @@
+-- Any run of calls: the card shows the list that the plain calls leave, and its free blocks and its table are told by that list alone.
+use mathlib.Core.Path.{_≡_, refl, sym, ap, _∙_}
+use mathlib.Core.List.{List, [], _∷_}
+use Prim.Native.Nat.{ℕ, _+_}
+use native.Mathlib.Omega.{arith}
+use lib.ListN.{length}
+use lib.Dec.{T}
+use Rattle.layout.specs.Blocks.{chain}
+use Rattle.layout.specs.Streams.{table}
+use Rattle.layout.specs.Header.{shaped, shapeOf, goodShape}
+use Rattle.layout.specs.Sound.{broken}
+use Rattle.layout.specs.Calls.{formatted}
+use Rattle.laws.proofs.Soundness.{sound}
+use Rattle.demands.specs.Plain.{Plain, freeOf, tableSize, plainNew}
+use Rattle.demands.specs.Shows.{plain}
+use Rattle.demands.specs.Runs.{Call, checks, rooms, sizes, reads, lists, writes, truncates, creates, deletes, outcome, plainCall, after, plainAfter, peak}
+use Rattle.demands.proofs.Free.{free-count}
+use Rattle.demands.proofs.Shown.{descs-same}
+use Rattle.demands.proofs.Refines.{Refines, check-refines, room-refines, size-refines, read-refines, list-refines, write-refines, truncate-refines, create-refines, delete-refines}
+use Rattle.demands.proofs.Formats.{new-sound, new-plain}
+use Rattle.demands.proofs.Peak.{descs-peak}
+
+-- ---- one call
+
+pub call-refines : (c : List ℕ) → broken c ≡ 0 → (k : Call) → Refines (outcome c k) (plainCall (plain c) k)
+unfolding outcome plainCall
+call-refines c e checks = check-refines c e
+call-refines c e rooms = room-refines c e
+call-refines c e (sizes name) = size-refines c e name
+call-refines c e (reads name p tray) = read-refines c e name p tray
+call-refines c e (lists k tray) = list-refines c e k tray
+call-refines c e (writes name p vs) = write-refines c e name p vs
+call-refines c e (truncates name n) = truncate-refines c e name n
+call-refines c e (creates name) = create-refines c e name
+call-refines c e (deletes name) = delete-refines c e name
+
+-- ---- any run
+
+pub after-sound : (ks : List Call) (c : List ℕ) → broken c ≡ 0 → broken (after c ks) ≡ 0
+unfolding after
+after-sound [] c e = e
+after-sound (k ∷ ks) c e = after-sound ks (outcome c k .card) (call-refines c e k .sound)
+
+pub after-plain : (ks : List Call) (c : List ℕ) → broken c ≡ 0 → plain (after c ks) ≡ plainAfter (plain c) ks
+unfolding after plainAfter
+after-plain [] c e = refl
+after-plain (k ∷ ks) c e = let r = call-refines c e k in after-plain ks (outcome c k .card) (r .sound) ∙ ap (λ (p : Plain). plainAfter p ks) (r .shows)
+
+-- so every call of a run answers what the plain calls say
+pub after-refines : (ks : List Call) (c : List ℕ) → broken c ≡ 0 → (k : Call) → Refines (outcome (after c ks) k) (plainCall (plainAfter (plain c) ks) k)
+after-refines ks c e k = rw (after-plain ks c e) at (call-refines (after c ks) (after-sound ks c e) k)
+
+pub after-free : (ks : List Call) (c : List ℕ) → broken c ≡ 0 → length (chain (after c ks) (shapeOf (after c ks))) ≡ freeOf (plainAfter (plain c) ks)
+after-free ks c e = free-count (after c ks) (sound (after c ks) (after-sound ks c e)) ∙ ap freeOf (after-plain ks c e)
+
+after-table : (ks : List Call) (c : List ℕ) → broken c ≡ 0 → table (after c ks) (shapeOf (after c ks)) .size ≡ tableSize (plainAfter (plain c) ks .descs)
+after-table ks c e =
+    let c′ = after c ks in
+    sound c′ (after-sound ks c e) .core .size ∙ ap tableSize (sym (descs-same c′) ∙ ap (λ (p : Plain). p .descs) (after-plain ks c e))
+
+-- ---- any run from a newly formatted card: nothing of the card is on the right
+
+module _ (len shift : ℕ) (fits : T (goodShape len shift)) (ks : List Call) where
+  abbrev c : List ℕ
+  c = after (formatted len shift) ks
+
+  abbrev new : Plain
+  new = plainNew shift (shaped len shift .count)
+
+  pub run-sound : broken c ≡ 0
+  run-sound = after-sound ks (formatted len shift) (new-sound len shift fits)
+
+  pub run-plain : plain c ≡ plainAfter new ks
+  run-plain = after-plain ks (formatted len shift) (new-sound len shift fits) ∙ ap (λ (p : Plain). plainAfter p ks) (new-plain len shift fits)
+
+  pub run-free : length (chain c (shapeOf c)) ≡ freeOf (plainAfter new ks)
+  run-free = after-free ks (formatted len shift) (new-sound len shift fits) ∙ ap (λ (p : Plain). freeOf (plainAfter p ks)) (new-plain len shift fits)
+
+  -- one descriptor for the root, and one for each of the most items at once
+  pub run-table : table c (shapeOf c) .size ≡ tableSize (peak new ks + 1)
+  run-table = after-table ks (formatted len shift) (new-sound len shift fits)
+      ∙ ap (λ (p : Plain). tableSize (plainAfter p ks .descs)) (new-plain len shift fits)
+      ∙ ap tableSize (descs-peak ks new (omega arith) ∙ omega arith)
+
+  pub run-refines : (k : Call) → Refines (outcome c k) (plainCall (plainAfter new ks) k)
+  run-refines k = rw (new-plain len shift fits) at (after-refines ks (formatted len shift) (new-sound len shift fits) k)

@@ -1,0 +1,1 @@
+// What the promises mean: the store as a plain list of names with their bytes. There is no code here.
