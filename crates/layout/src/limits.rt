@@ -1,6 +1,6 @@
 // The limits, by name: the numbers of specs/Limits.antt, for code.
 ghost use mathlib.Core.Path.{_≡_};
-ghost use Rattle.layout.specs.Limits.{mostBlocks, mostStreams, longestName};
+ghost use Rattle.layout.specs.Limits.{mostBlocks, mostStreams, longestName, slash};
 
 pub fn most_blocks() -> usize
     ensures { λ r. ⌜ r ≡ mostBlocks ⌝ }
@@ -18,4 +18,10 @@ pub fn longest_name() -> usize
     ensures { λ r. ⌜ r ≡ longestName ⌝ }
 {
     64
+}
+
+pub fn slash() -> u8
+    ensures { λ r. ⌜ r ≡ slash ⌝ }
+{
+    47
 }

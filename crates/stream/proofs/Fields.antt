@@ -41,29 +41,33 @@ num-shift (suc n) l l′ p q h =
     let b = num-shift n l l′ (p + 1) (q + 1) (λ i k. let e : p + 1 + i ≡ p + (1 + i) = omega arith in let f : q + 1 + i ≡ q + (1 + i) = omega arith in rw (e, f) (h (1 + i) (omega arith))) in
     omega (arith, a, b)
 
-page-byte : (l : List ℕ) (x i : ℕ) → i < 25 → getD (over (replicate 25 0) 0 (take 25 (drop x l))) i 0 ≡ getD l (x + i) 0
-page-byte l x i h =
-    let vs = take 25 (drop x l) in
-    let n = length-take 25 (drop x l) in
+page-byte : (w : ℕ) (l : List ℕ) (x i : ℕ) → i < w → getD (over (replicate w 0) 0 (take w (drop x l))) i 0 ≡ getD l (x + i) 0
+page-byte w l x i h =
+    let vs = take w (drop x l) in
+    let n = length-take w (drop x l) in
     let m = length-drop x l in
     elim (decLt (x + i) (length l)) [
-      | yes k ↦ over-in (replicate 25 0) 0 vs i i (omega arith) (omega arith) (rw length-replicate h) ∙ getD-take 25 (drop x l) i 0 h ∙ getD-drop x l i 0
-      | no k ↦ over-out (replicate 25 0) 0 vs i (λ a b. omega arith) ∙ getD-replicate 25 i 0 0 h ∙ sym (List·getD-eq-default l 0 (omega arith))
+      | yes k ↦ over-in (replicate w 0) 0 vs i i (omega arith) (omega arith) (rw length-replicate h) ∙ getD-take w (drop x l) i 0 h ∙ getD-drop x l i 0
+      | no k ↦ over-out (replicate w 0) 0 vs i (λ a b. omega arith) ∙ getD-replicate w i 0 0 h ∙ sym (List·getD-eq-default l 0 (omega arith))
     ]
+
+-- a number on a page is the number where its bytes came from
+pub page-num : (w : ℕ) (l page : List ℕ) (x o n : ℕ) → o + n ≤ w → page ≡ over (replicate w 0) 0 (take w (drop x l)) → num n page o ≡ num n l (x + o)
+page-num w l page x o n h e = rw e (num-shift n (over (replicate w 0) 0 (take w (drop x l))) l o (x + o) (λ i k.
+    let b : x + o + i ≡ x + (o + i) = omega arith in
+    rw b (page-byte w l x (o + i) (omega arith))))
+
+pub page-start : (w : ℕ) (l page : List ℕ) (x n : ℕ) → n ≤ w → page ≡ over (replicate w 0) 0 (take w (drop x l)) → num n page 0 ≡ num n l x
+page-start w l page x n h e = rw (add-zero x) at (page-num w l page x 0 n (omega arith) e)
 
 pub page-desc : (l page : List ℕ) (x : ℕ) (r : Desc) → page ≡ over (replicate 25 0) 0 (take 25 (drop x l)) → r ≡ descIn page 0 → r ≡ descIn l x
 unfolding descIn
-page-desc l page x r e f = f ∙ rw e (
-    let pg = over (replicate 25 0) 0 (take 25 (drop x l)) in
-    let part : (o n : ℕ) → o + n ≤ 25 → num n pg (0 + o) ≡ num n l (x + o) = λ o n h. num-shift n pg l (0 + o) (x + o) (λ i k.
-    let a : 0 + o + i ≡ o + i = omega arith in
-    let b : x + o + i ≡ x + (o + i) = omega arith in
-    rw (a, b) (page-byte l x (o + i) (omega arith))) in
-    let a : num 8 pg 0 ≡ num 8 l x = rw (add-zero x) at (part 0 8 (omega arith)) in
-    let b = part 8 8 (omega arith) in
-    let d = part 16 8 (omega arith) in
-    let g = page-byte l x 24 (omega arith) in
-    λ i. record { size = a i; top = b i; reserved = d i; flags = g i })
+page-desc l page x r e f =
+    let a = page-start 25 l page x 8 (omega arith) e in
+    let b = page-num 25 l page x 8 8 (omega arith) e in
+    let d = page-num 25 l page x 16 8 (omega arith) e in
+    let g = ap (λ (t : List ℕ). getD t 24 0) e ∙ page-byte 25 l x 24 (omega arith) in
+    f ∙ (λ i. record { size = a i; top = b i; reserved = d i; flags = g i })
 
 -- ---- in the table
 
