@@ -72,6 +72,9 @@ module _ (size : ℕ) (least : 64 ≤ size) where
   pub slot-small : (j : ℕ) → size ≤ 4096 → j % (size / 4) ≤ 4096
   slot-small j most = omega (arith, mod-lt j fan-pos)
 
+  pub slot-near : (j : ℕ) → size ≤ 4096 → j % (size / 4) ≤ cap
+  slot-near j most = omega (arith, slot-small j most)
+
 -- ---- links
 
 pub wide-end : (b : ℕ) → b ≡ 0xffff_ffff → 0xffff_ffff_ffff_ffff ≡ wide b

@@ -1,6 +1,7 @@
 pub mod Picks
 pub mod ByteLaws
 pub mod Lists
+pub mod Windows
 pub mod Tests
 pub mod Levels
 pub mod Counting

@@ -21,18 +21,18 @@ use Rattle.laws.proofs.Laying.{data-in, laid-node, contents-laidTo}
 use Rattle.layout.specs.declared.Shape.{Shape}
 
 -- no bytes, no change
-row-none : (g : ℕ) (c : List ℕ) (s : Shape) (b i r : ℕ) (vs : List ℕ) → length vs ≡ 0 → laidRow g c s b i r vs ≡ c
+pub row-none : (g : ℕ) (c : List ℕ) (s : Shape) (b i r : ℕ) (vs : List ℕ) → length vs ≡ 0 → laidRow g c s b i r vs ≡ c
 unfolding laidRow
 row-none zero c s b i r vs e = refl
 row-none (suc g) c s b i r vs e = rw (eqb-yes e)
 
-rows-none : (g : ℕ) (c : List ℕ) (s : Shape) (top h q i r : ℕ) (vs : List ℕ) → length vs ≡ 0 → laidRows g c s top h q i r vs ≡ c
+pub rows-none : (g : ℕ) (c : List ℕ) (s : Shape) (top h q i r : ℕ) (vs : List ℕ) → length vs ≡ 0 → laidRows g c s top h q i r vs ≡ c
 unfolding laidRows
 rows-none zero c s top h q i r vs e = refl
 rows-none (suc g) c s top h q i r vs e = rw (eqb-yes e)
 
 -- a part of a part
-cut-part : (m w : ℕ) (l : List ℕ) → m ≤ w → drop m (take w l) ≡ take (w - m) (drop m l)
+pub cut-part : (m w : ℕ) (l : List ℕ) → m ≤ w → drop m (take w l) ≡ take (w - m) (drop m l)
 cut-part zero w l h = let e : w - 0 ≡ w = omega arith in rw e
 cut-part (suc m) zero l h = absurd (omega arith)
 cut-part (suc m) (suc w) [] h = sym (take-nil (suc w - suc m))

@@ -1,14 +1,15 @@
 -- The turns of the loops over bytes: what is left to do from here equals the whole from the start.
 use mathlib.Core.Path.{_≡_, refl, sym, _∙_, ap}
-use mathlib.Core.List.{List, [], _∷_, _++_}
+use mathlib.Core.List.{List, _∷_, _++_}
 use Prim.Native.Nat.{ℕ, zero, suc, _+_, _-_, _*_, _/_, _%_, _^_, min, _≤_, _<_}
 use native.Mathlib.Nat.{pow-suc, pow-le-pow-right}
 use native.Mathlib.Numerals.{add-one, sub-one}
 use native.Mathlib.Omega.{arith}
-use lib.ListN.{length, getD, set, take, drop, replicate, drop-of-length-le, length-set, length-drop, length-take, length-replicate}
-use lib.Seq.{take-nil, take-take, take-add, drop-drop, drop-cons}
-use Rattle.layout.specs.Bytes.{num, bytes, over, put, both, matches}
-use Rattle.laws.proofs.ByteLaws.{num-past, over-past, length-bytes, over-append, take-over}
+use lib.ListN.{length, getD, set, take, drop, replicate, drop-of-length-le, length-drop, length-take, length-replicate}
+use lib.Seq.{take-take, take-add, drop-drop, drop-cons}
+use Rattle.layout.specs.Bytes.{num, bytes, over, put, window, both, matches}
+use Rattle.laws.proofs.ByteLaws.{num-past, length-bytes, over-append, over-take, take-over}
+use Rattle.laws.proofs.Windows.{length-window, window-inside, window-past, window-append}
 use borrow.Author.Tests.{eq-eqb, ne-eqb}
 use mathlib.Core.Bool.{Bool, true, false}
 
@@ -45,13 +46,6 @@ num-clamp (suc m) (suc n) l at e h = ap (λ (v : ℕ). getD l at 0 + 256 * v) (n
 
 -- ---- over
 
--- what goes past the end may be left out
-pub over-take : (vs l : List ℕ) (at m : ℕ) → min (length vs) (length l - at) ≤ m → over l at (take m vs) ≡ over l at vs
-unfolding over
-over-take [] l at m h = rw (take-nil m) refl
-over-take (v ∷ vs) l at zero h = sym (over-past (v ∷ vs) l at (omega arith))
-over-take (v ∷ vs) l at (suc m) h = over-take vs (set l at v) (at + 1) m (rw (length-set l at v) (omega arith))
-
 take-replicate : (a m n : ℕ) → m ≤ n → take m (replicate n a) ≡ replicate m a
 take-replicate a zero n h = refl
 take-replicate a (suc m) zero h = absurd (omega arith)
@@ -75,6 +69,19 @@ pub copy-step : (l src : List ℕ) (p q n : ℕ) → 0 < n → q < length src �
     over (set l p (getD src q 0)) (p + 1) (take (n - 1) (drop (q + 1) src)) ≡ over l p (take n (drop q src))
 unfolding over
 copy-step l src p q (suc n) h k = rw (sub-one (suc n), add-one q, drop-cons src q 0 k) refl
+
+-- ---- zeros past the end
+
+module _ (dst src : List ℕ) (at from n m k : ℕ) (e : m ≡ min n k) (f : k ≡ length src - from) (d₁ : List ℕ) (g : d₁ ≡ over dst at (take m (drop from src))) where
+  pub fetch-inside : n ≤ m → d₁ ≡ over dst at (window src from n)
+  fetch-inside h = let t : m ≡ n = omega arith in g ∙ rw (t, window-inside src from n (omega arith))
+
+  pub fetch-past : m < n → over d₁ (at + m) (replicate (n - m) 0) ≡ over dst at (window src from n)
+  fetch-past h =
+      let t : n ≡ m + (n - m) = omega arith in
+      let w : window src from n ≡ window src from m ++ window src (from + m) (n - m) = ap (window src from) t ∙ window-append src from m (n - m) in
+      let l : length (window src from m) ≡ m = length-window src from m in
+      rw (g, w, over-append, l, window-past src (from + m) (n - m) (omega arith), window-inside src from m (omega arith))
 
 -- ---- put
 

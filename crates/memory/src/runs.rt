@@ -3,9 +3,9 @@ use crate::bytes::byte;
 use crate::numbers::least;
 use crate::numbers::minus;
 ghost use mathlib.Core.Path.{_≡_};
-ghost use Prim.Native.Nat.{_-_, _<_, _≤_};
+ghost use Prim.Native.Nat.{_+_, _-_, _^_, _<_, _≤_};
 ghost use lib.ListN.{length, take, drop, replicate};
-ghost use Rattle.layout.specs.Bytes.{over, matches};
+ghost use Rattle.layout.specs.Bytes.{over, window, matches};
 
 // `n` bytes of 0 from `at` on.
 pub fn clear(card: &mut [u8], at: usize, n: usize)
@@ -109,6 +109,18 @@ fn matches_inside(card: &[u8], at: usize, run: &[u8]) -> bool
         left -= 1;
     }
     same
+}
+
+// The `n` bytes of `src` from `from` on, zeros past its end, are laid over `dst` from `at` on.
+pub fn fetch(dst: &mut [u8], at: usize, src: &[u8], from: usize, n: usize)
+    requires { ⌜ at + n < 2 ^ 64 ⌝ }
+    ensures { λ _. ⌜ now (dst .exit) ≡ over (now (dst .entry)) at (window (now (src .entry)) from n) ⌝ }
+{
+    let m = least(n, minus(src.len(), from));
+    copy(dst, at, src, from, m);
+    if m < n {
+        clear(dst, at + m, n - m);
+    }
 }
 
 // Whether the bytes `run` stand at `at`.

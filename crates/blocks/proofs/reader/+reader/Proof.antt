@@ -2,7 +2,7 @@
 use mathlib.Core.Path.{refl}
 use native.Mathlib.Omega.{arith}
 use native.Mathlib.Nat.{pos-of-ne-zero}
-use Rattle.blocks.proofs.Near.{fan-pos, fan-two, slot-small}
+use Rattle.blocks.proofs.Near.{fan-pos, fan-two, slot-near}
 use Rattle.blocks.proofs.Descent.{node-top, node-down}
 use Prim.Native.Nat.{ℕ, _<_}
 use borrow.Fn.Kinds.{In}
@@ -82,7 +82,7 @@ reader-index-requires : (t : ℕ) → reader-lts.Need-index-requires (
 ) (reader-at t) reader.Post
 reader-index-requires t c κs =
     let at-start = c .before .before .before in
-    (at-start .pre .1 .0, at-start .pre .1 .1, at-start .pre .1 .2, slot-small _ (at-start .pre .1 .1) _ (at-start .pre .1 .2), at-start .pre .1 .3)
+    (at-start .pre .1 .0, at-start .pre .1 .1, at-start .pre .1 .2, slot-near _ (at-start .pre .1 .1) _ (at-start .pre .1 .2), at-start .pre .1 .3)
 
 reader-sub-reader : (t : ℕ) → reader-lts.Need-sub-reader (
   above-reads.Asked,

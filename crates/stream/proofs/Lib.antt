@@ -1,0 +1,4 @@
+pub mod Blockwise
+pub mod Rowwise
+pub mod Fields
+pub mod Sizes
