@@ -36,7 +36,7 @@ pub fn narrowed(b: usize) -> usize
 pub fn first_free(card: &[u8], s: Shape) -> usize
     ensures { λ r. ⌜ r ≡ firstFree (now (card .entry)) s ⌝ }
 {
-    number(card, s.first, 8)
+    number(&*card, s.first, 8)
 }
 
 // The free block after `b`.
@@ -44,7 +44,7 @@ pub fn next(card: &[u8], s: Shape, b: usize) -> usize
     requires { ⌜ Small (now card) s ⌝ }
     ensures { λ r. ⌜ r ≡ next (now (card .entry)) s b ⌝ }
 {
-    widened(slot(card, s, b, 0))
+    widened(slot(&*card, s, b, 0))
 }
 
 // How many blocks the chain has; one more than the card has, where it does not end.
@@ -52,14 +52,14 @@ pub fn free_count(card: &[u8], s: Shape) -> usize
     requires { ⌜ Small (now card) s ⌝ }
     ensures { λ r. ⌜ (r ≡ length (chain (now (card .entry)) s)) × (r ≤ s .count + 1) ⌝ }
 {
-    let mut b = first_free(card, s);
+    let mut b = first_free(&*card, s);
     let mut left = s.count + 1;
     let mut n = 0;
     while 0 < left {
         if b == 0xffff_ffff_ffff_ffff {
             return n;
         }
-        b = next(card, s, b);
+        b = next(&*card, s, b);
         n += 1;
         left -= 1;
     }
@@ -71,13 +71,13 @@ pub fn enough(card: &[u8], s: Shape, n: usize) -> bool
     requires { ⌜ Small (now card) s ⌝ }
     ensures { λ r. ⌜ r ≡ enough (now (card .entry)) s n ⌝ }
 {
-    let mut b = first_free(card, s);
+    let mut b = first_free(&*card, s);
     let mut left = n;
     while 0 < left {
         if b == 0xffff_ffff_ffff_ffff {
             return false;
         }
-        b = next(card, s, b);
+        b = next(&*card, s, b);
         left -= 1;
     }
     true

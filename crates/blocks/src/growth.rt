@@ -104,5 +104,5 @@ pub fn lowered_top(card: &[u8], s: Shape, top: usize, d: usize, d2: usize) -> us
     let f = s.size / 4;
     let h = height(f, d);
     let h2 = height(f, d2);
-    node(card, s, top, minus(h, h2), 0)
+    node(&*card, s, top, minus(h, h2), 0)
 }

@@ -25,7 +25,7 @@ pub fn index(card: &[u8], base: usize, size: usize, b: usize, j: usize) -> usize
     requires { ⌜ (base ≤ 1024) × (64 ≤ size) × (size ≤ 4096) × (j ≤ 4294967296) × (length (now card) ≤ 4294967296) ⌝ }
     ensures { λ r. ⌜ (r ≡ num 4 (now (card .entry)) (base + b * size + 4 * j)) × (r < 256 ^ 4) ⌝ }
 {
-    number(card, base + least(b, 4294967296) * size + 4 * j, 4)
+    number(&*card, base + least(b, 4294967296) * size + 4 * j, 4)
 }
 
 // Index `j` of block `b`.
@@ -33,7 +33,7 @@ pub fn slot(card: &[u8], s: Shape, b: usize, j: usize) -> usize
     requires { ⌜ Small (now card) s × (j ≤ 4294967296) ⌝ }
     ensures { λ r. ⌜ (r ≡ slot (now (card .entry)) s b j) × (r < 256 ^ 4) ⌝ }
 {
-    index(card, s.base, s.size, b, j)
+    index(&*card, s.base, s.size, b, j)
 }
 
 // `v` as index `j` of block `b`.

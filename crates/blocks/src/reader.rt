@@ -19,8 +19,8 @@ pub fn reader(card: &[u8], base: usize, size: usize, b: usize, h: usize, j: usiz
     }
     let f = size / 4;
     let i = above(f, h - 1, j) % f;
-    let below = index(card, base, size, b, i);
-    reader(card, base, size, below, h - 1, j)
+    let below = index(&*card, base, size, b, i);
+    reader(&*card, base, size, below, h - 1, j)
 }
 
 // Block number `j` of the level `e` below the top.
@@ -28,5 +28,5 @@ pub fn node(card: &[u8], s: Shape, top: usize, e: usize, j: usize) -> usize
     requires { ⌜ Small (now card) s ⌝ }
     ensures { λ r. ⌜ r ≡ node (now (card .entry)) s top e j ⌝ }
 {
-    reader(card, s.base, s.size, top, e, j)
+    reader(&*card, s.base, s.size, top, e, j)
 }

@@ -7,11 +7,11 @@ use native.Mathlib.Numerals.{add-one, sub-one}
 use native.Mathlib.Omega.{arith}
 use lib.ListN.{length, getD, set, take, drop, replicate, drop-of-length-le, length-drop, length-take, length-replicate}
 use lib.Seq.{take-take, take-add, drop-drop, drop-cons}
-use Rattle.layout.specs.Bytes.{num, bytes, over, put, window, matches}
-use Rattle.laws.proofs.ByteLaws.{length-bytes, over-append, over-take, take-over}
+use Rattle.layout.specs.Bytes.{num, bytes, over, put, window, both, matches}
+use Rattle.laws.proofs.ByteLaws.{num-past, length-bytes, over-append, over-take, take-over}
 use Rattle.laws.proofs.Windows.{length-window, window-inside, window-past, window-append}
 use borrow.Author.Tests.{eq-eqb, ne-eqb}
-use mathlib.Core.Bool.{true, false}
+use mathlib.Core.Bool.{Bool, true, false}
 
 -- ---- num
 
@@ -25,6 +25,24 @@ pow-step n v b h k = rw (add-one n, pow-suc 256 n) (omega arith)
 
 pub pow-fits : (n v b : ℕ) → v < 256 ^ n → b < 256 → n < 8 → v * 256 + b < 2 ^ 64
 pow-fits n v b h k m = omega (arith, pow-step n v b h k, pow-le-pow-right {n = 256} (omega arith) {i = n + 1} {j = 8} (omega arith))
+
+-- the first byte, and the number in the others
+pub num-first : (n : ℕ) (l : List ℕ) (at b r : ℕ) → 0 < n → b ≡ getD l at 0 → r ≡ num (n - 1) l (at + 1) → b + 256 * r ≡ num n l at
+unfolding num
+num-first (suc n) l at b r h e f = rw (e, rw (sub-one (suc n)) at f) refl
+
+pub first-small : (n b r : ℕ) → 0 < n → b < 256 → r < 256 ^ (n - 1) → b + 256 * r < 256 ^ n
+first-small (suc n) b r h k m = rw (pow-suc 256 n) (omega (arith, rw (sub-one (suc n)) at m))
+
+pub first-fits : (n b r : ℕ) → 0 < n → n ≤ 8 → b < 256 → r < 256 ^ (n - 1) → b + 256 * r < 2 ^ 64
+first-fits n b r h w k m = omega (arith, first-small n b r h k m, pow-le-pow-right {n = 256} (omega arith) {i = n} {j = 8} w)
+
+-- those past the end are 0
+pub num-clamp : (m n : ℕ) (l : List ℕ) (at : ℕ) → m ≡ length l - at → m ≤ n → num m l at ≡ num n l at
+unfolding num
+num-clamp zero n l at e h = sym (num-past n l at (omega arith))
+num-clamp (suc m) zero l at e h = absurd (omega arith)
+num-clamp (suc m) (suc n) l at e h = ap (λ (v : ℕ). getD l at 0 + 256 * v) (num-clamp m n l (at + 1) (omega arith) (omega arith))
 
 -- ---- over
 
@@ -128,21 +146,40 @@ module _ (l : List ℕ) (p : ℕ) (want : List ℕ) (i x : ℕ) (e : x ≡ getD 
   unfolding matches
   match-stop f = rw (drop-cons want i 0 h, ← e, ne-eqb x (getD want i 0) f) refl
 
+  -- the same with what came before as a Bool: a byte that differs decides it
+  pub match-miss : (b b′ : Bool) → (x ≡ getD want i 0 → ⊥) → b′ ≡ false → both b′ (matches l (p + 1) (drop (i + 1) want)) ≡ both b (matches l p (drop i want))
+  match-miss true b′ f k = rw k (match-stop f)
+  match-miss false b′ f k = rw k refl
+
+  pub match-keep : (b b′ : Bool) → x ≡ getD want i 0 → b′ ≡ b → both b′ (matches l (p + 1) (drop (i + 1) want)) ≡ both b (matches l p (drop i want))
+  match-keep b b′ f k = rw (k, match-step f) refl
+
 pub match-end : (l : List ℕ) (p : ℕ) (want : List ℕ) (i : ℕ) → length want ≤ i → true ≡ matches l p (drop i want)
 unfolding matches
 match-end l p want i h = rw (drop-of-length-le want h) refl
 
+pub match-whole : (b : Bool) (l : List ℕ) (p : ℕ) (want : List ℕ) (i : ℕ) → length want ≤ i → b ≡ both b (matches l p (drop i want))
+match-whole true l p want i h = match-end l p want i h
+match-whole false l p want i h = refl
+
 -- ---- a page at a time
 
 -- m bytes go by way of a page
-pub page-turn : (dst page src : List ℕ) (p q left m : ℕ) (page₁ dst₁ : List ℕ) → page₁ ≡ over page 0 (take m (drop q src)) → dst₁ ≡ over dst p (take m page₁)
-    → m ≤ left → left ≤ length src - q → m ≤ length page
-    → over dst₁ (p + m) (take (left - m) (drop (q + m) src)) ≡ over dst p (take left (drop q src))
-page-turn dst page src p q left m page₁ dst₁ e f a b h =
+pub page-by : (dst page src : List ℕ) (p q m : ℕ) (page₁ dst₁ : List ℕ) → page₁ ≡ over page 0 (take m (drop q src)) → dst₁ ≡ over dst p (take m page₁)
+    → m ≤ length src - q → m ≤ length page → dst₁ ≡ over dst p (take m (drop q src))
+page-by dst page src p q m page₁ dst₁ e f a h =
     let xs = take m (drop q src) in
     let n : length xs ≡ m = rw (length-take, length-drop) (omega arith) in
     let t : take m (over page 0 xs) ≡ xs = take-over page xs m (sym n) h in
+    rw (f, e, t) refl
+
+-- m bytes first, and then the others
+pub page-turn : (dst src : List ℕ) (p q left m : ℕ) (dst₁ : List ℕ) → dst₁ ≡ over dst p (take m (drop q src)) → m ≤ left → left ≤ length src - q
+    → over dst₁ (p + m) (take (left - m) (drop (q + m) src)) ≡ over dst p (take left (drop q src))
+page-turn dst src p q left m dst₁ e a b =
+    let xs = take m (drop q src) in
+    let n : length xs ≡ m = rw (length-take, length-drop) (omega arith) in
     let whole : m + (left - m) ≡ left = omega arith in
     let split : take left (drop q src) ≡ xs ++ take (left - m) (drop (q + m) src) =
     ap (λ (k : ℕ). take k (drop q src)) (sym whole) ∙ take-add m (left - m) (drop q src) ∙ ap (λ (l : List ℕ). xs ++ take (left - m) l) (drop-drop m q src) in
-    rw (f, e, t, split, over-append dst p xs (take (left - m) (drop (q + m) src)), n)
+    rw (e, split, over-append dst p xs (take (left - m) (drop (q + m) src)), n)
