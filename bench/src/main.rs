@@ -278,6 +278,41 @@ fn growing(cut: Cut, d: usize) {
     );
 }
 
+/// 64 KiB of a stream of `d` data blocks and height `h`, read and written whole.
+fn streaming(cut: Cut, d: usize, h: usize) {
+    let size = cut.size;
+    let mut card = cut.free_card();
+    let top = plain::grow(&mut card, cut, 0, 0, d);
+    let given: Vec<u8> = (0..d * size).map(|i| (i * 7 + i / 251) as u8).collect();
+    let mut tray = vec![0; d * size];
+    for (p, n) in [(0, given.len()), (5, 3000), (size - 1, 2), (700, 0)] {
+        let given = &given[..n];
+        let laid = same(
+            &card,
+            |c| ours::lay(c, cut, top, h, p, given),
+            |c| plain::lay(c, cut, top, h, p, given),
+        );
+        let back = same(
+            &vec![0; n],
+            |t| ours::gather(&laid, cut, top, d, p, t),
+            |t| plain::gather(&laid, cut, top, h, p, t),
+        );
+        assert!(back == given);
+    }
+    row(
+        &format!("64 KiB read, blocks of {size} bytes"),
+        &mut tray,
+        |t| each(20, |_| ours::gather(&card, cut, top, d, 0, black_box(t))),
+        |t| each(20, |_| plain::gather(&card, cut, top, h, 0, black_box(t))),
+    );
+    row(
+        &format!("64 KiB written, blocks of {size} bytes"),
+        &mut card,
+        |c| each(20, |_| ours::lay(black_box(c), cut, top, h, 0, &given)),
+        |c| each(20, |_| plain::lay(black_box(c), cut, top, h, 0, &given)),
+    );
+}
+
 fn main() {
     println!(
         "{:44} {:>11} {:>11} {:>7}",
@@ -299,7 +334,6 @@ fn main() {
     reading(large, black_box(1024), black_box(1));
     taking(small);
     growing(small, black_box(1000));
-    // HERE TWO ROWS MORE, when the crate `stream` is there: reading and writing 64 KiB of a stream, in 64-byte blocks (a
-    // pyramid of height 3) and in 4,096-byte blocks (height 1). Export its functions in crates/bench/src/lib.rt, declare
-    // them in ours.rs, write the same in plain.rs, and compare tray and card after each as above.
+    streaming(small, black_box(1024), black_box(3));
+    streaming(large, black_box(16), black_box(1));
 }

@@ -70,6 +70,35 @@ mod archive {
             d: usize,
             m: usize,
         ) -> usize;
+        pub fn bench_gather(
+            card: *const u8,
+            len: usize,
+            base: usize,
+            size: usize,
+            count: usize,
+            first: usize,
+            top: usize,
+            bytes: usize,
+            reserved: usize,
+            p: usize,
+            tray: *mut u8,
+            tray_len: usize,
+            n: usize,
+        );
+        pub fn bench_lay(
+            card: *mut u8,
+            len: usize,
+            base: usize,
+            size: usize,
+            count: usize,
+            first: usize,
+            top: usize,
+            h: usize,
+            p: usize,
+            given: *const u8,
+            given_len: usize,
+            n: usize,
+        );
         pub fn bench_release(
             card: *mut u8,
             len: usize,
@@ -211,6 +240,51 @@ pub fn release(card: &mut [u8], cut: Cut, top: usize, d: usize, d2: usize, marks
             d2,
             lent,
             len,
+        )
+    }
+}
+
+/// Bytes `p` on of a stream of `d` data blocks, all full, into the tray.
+pub fn gather(card: &[u8], cut: Cut, top: usize, d: usize, p: usize, tray: &mut [u8]) {
+    whole(card);
+    let bytes = d * cut.size;
+    unsafe {
+        archive::bench_gather(
+            card.as_ptr(),
+            card.len(),
+            cut.base,
+            cut.size,
+            cut.count,
+            cut.first,
+            top,
+            bytes,
+            bytes,
+            p,
+            tray.as_mut_ptr(),
+            tray.len(),
+            tray.len(),
+        )
+    }
+}
+
+/// The bytes go into a stream of height `h` from place `p` on.
+pub fn lay(card: &mut [u8], cut: Cut, top: usize, h: usize, p: usize, given: &[u8]) {
+    whole(card);
+    assert!(p < 1 << 62 && given.len() < 1 << 62);
+    unsafe {
+        archive::bench_lay(
+            card.as_mut_ptr(),
+            card.len(),
+            cut.base,
+            cut.size,
+            cut.count,
+            cut.first,
+            top,
+            h,
+            p,
+            given.as_ptr(),
+            given.len(),
+            given.len(),
         )
     }
 }

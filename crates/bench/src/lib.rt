@@ -1,4 +1,4 @@
-// What the benchmark in bench/ calls: the functions of memory and blocks, each under a name of its own and with its own
+// What the benchmark in bench/ calls: the functions of memory, blocks and stream, each under a name of its own and with its own
 // promise. Where one has a `requires`, the benchmark meets it: its cards are whole, and it made every number itself.
 use blocks::chain::enough;
 use blocks::chain::take_block;
@@ -6,15 +6,19 @@ use blocks::growth::grow;
 use blocks::marks::release;
 use blocks::reader::node;
 use blocks::reader::reader;
+use layout::Desc;
 use layout::Shape;
 use memory::runs::clear;
 use memory::runs::copy;
 use memory::runs::matches;
+use stream::gather::gather_stream;
+use stream::lay::lay;
 ghost use mathlib.Core.Path.{_≡_};
-ghost use Prim.Native.Nat.{_^_, _<_, _≤_};
+ghost use Prim.Native.Nat.{_+_, _/_, _^_, _<_, _≤_};
 ghost use lib.ListN.{length, take, drop, replicate};
 ghost use Rattle.layout.specs.Bytes.{over, matches};
 ghost use Rattle.layout.specs.Blocks.{node, firstFree, enough, taken, grown, surplus, released};
+ghost use Rattle.layout.specs.Streams.{contents, laid};
 ghost use Rattle.layout.specs.Ranges.{Small};
 ghost use Rattle.blocks.specs.Walks.{plainShape};
 ghost use Rattle.bench.specs.Cuts.{cut};
@@ -175,4 +179,65 @@ pub extern "C" fn bench_release(
         filing: 0,
     };
     release(card, s, top, d, d2, marks);
+}
+
+#[no_mangle]
+pub extern "C" fn bench_gather(
+    card: &[u8],
+    base: usize,
+    size: usize,
+    count: usize,
+    first: usize,
+    top: usize,
+    bytes: usize,
+    reserved: usize,
+    p: usize,
+    tray: &mut [u8],
+    n: usize,
+)
+    requires { ⌜ Small (now card) (cut base size count first) ⌝ }
+    ensures { λ _. ⌜ now (tray .exit) ≡ over (now (tray .entry)) 0 (take n (drop p (contents (now (card .entry)) (cut base size count first) top (reserved / size) bytes))) ⌝ }
+{
+    let s = Shape {
+        base: base,
+        size: size,
+        count: count,
+        first: first,
+        table: 0,
+        filing: 0,
+    };
+    let t = Desc {
+        size: bytes,
+        top: top,
+        reserved: reserved,
+        flags: 0,
+    };
+    gather_stream(&*card, s, t, p, tray, 0, n);
+}
+
+#[no_mangle]
+pub extern "C" fn bench_lay(
+    card: &mut [u8],
+    base: usize,
+    size: usize,
+    count: usize,
+    first: usize,
+    top: usize,
+    h: usize,
+    p: usize,
+    given: &[u8],
+    n: usize,
+)
+    requires { ⌜ Small (now card) (cut base size count first) × (p < 2 ^ 62) × (n < 2 ^ 62) × (n ≤ length (now given)) ⌝ }
+    ensures { λ _. ⌜ now (card .exit) ≡ laid (now (card .entry)) (cut base size count first) top h p (take n (drop 0 (now (given .entry)))) ⌝ }
+{
+    let s = Shape {
+        base: base,
+        size: size,
+        count: count,
+        first: first,
+        table: 0,
+        filing: 0,
+    };
+    lay(card, s, top, h, p, &*given, 0, n);
 }

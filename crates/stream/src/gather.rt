@@ -22,7 +22,7 @@ fn gather_block(card: &[u8], s: Shape, b: usize, r: usize, tray: &mut [u8], at: 
     requires { ⌜ Small (now card) s × (r ≤ 4096) × (at + n ≤ length (now tray)) ⌝ }
     ensures { λ _. ⌜ now (tray .exit) ≡ over (now (tray .entry)) at (window (now (card .entry)) (place s b + r) n) ⌝ }
 {
-    fetch(tray, at, card, place(s, b) + r, n);
+    fetch(tray, at, &*card, place(s, b) + r, n);
 }
 
 // `n` bytes go to `tray` from `at` on, out of the blocks that the slots of block `b` name, from byte `r` of slot `i`'s block on.
@@ -46,7 +46,7 @@ fn gather_row(
     let mut left = n;
     while 0 < left {
         let m = least(size - from, left);
-        gather_block(card, s, slot(card, s, b, k), from, tray, to, m);
+        gather_block(&*card, s, slot(&*card, s, b, k), from, tray, to, m);
         k += 1;
         from = 0;
         to += m;
@@ -65,7 +65,7 @@ fn gather_top(card: &[u8], s: Shape, top: usize, p: usize, tray: &mut [u8], at: 
     let mut left = n;
     while 0 < left {
         let m = least(size - from, left);
-        gather_block(card, s, top, from, tray, to, m);
+        gather_block(&*card, s, top, from, tray, to, m);
         from = 0;
         to += m;
         left -= m;
@@ -95,7 +95,7 @@ fn gather_rows(
     let mut left = n;
     while 0 < left {
         let m = least((f - i) * size - r, left);
-        gather_row(card, s, node(card, s, top, h - 1, q), i, r, tray, to, m);
+        gather_row(&*card, s, node(&*card, s, top, h - 1, q), i, r, tray, to, m);
         q += 1;
         i = 0;
         r = 0;
@@ -116,8 +116,8 @@ pub fn gather_stream(card: &[u8], s: Shape, t: Desc, p: usize, tray: &mut [u8], 
     let top = t.top;
     let h = height(s.size / 4, t.reserved / s.size);
     if h == 0 {
-        gather_top(card, s, top, p, tray, at, m);
+        gather_top(&*card, s, top, p, tray, at, m);
     } else {
-        gather_rows(card, s, top, h, p, tray, at, m);
+        gather_rows(&*card, s, top, h, p, tray, at, m);
     }
 }

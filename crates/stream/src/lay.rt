@@ -19,7 +19,7 @@ fn lay_block(card: &mut [u8], s: Shape, b: usize, r: usize, given: &[u8], from: 
     ensures { λ _. ⌜ now (card .exit) ≡ over (now (card .entry)) (place s b + r) (take n (drop from (now (given .entry)))) ⌝ }
 {
     let at = place(s, b) + r;
-    copy(card, at, given, from, n);
+    copy(card, at, &*given, from, n);
 }
 
 // `n` bytes of `given` from `from` on go into the blocks that the slots of block `b` name, from byte `r` of slot `i`'s block on.
@@ -43,7 +43,7 @@ fn lay_row(
     let mut left = n;
     while 0 < left {
         let m = least(size - at, left);
-        lay_block(card, s, slot(card, s, b, k), at, given, q, m);
+        lay_block(card, s, slot(card, s, b, k), at, &*given, q, m);
         k += 1;
         at = 0;
         q += m;
@@ -66,7 +66,7 @@ pub fn lay(
     ensures { λ _. ⌜ now (card .exit) ≡ laid (now (card .entry)) s top h p (take n (drop from (now (given .entry)))) ⌝ }
 {
     if h == 0 {
-        lay_block(card, s, top, p, given, from, n);
+        lay_block(card, s, top, p, &*given, from, n);
         return;
     }
     let size = s.size;
@@ -78,7 +78,7 @@ pub fn lay(
     let mut left = n;
     while 0 < left {
         let m = least((f - i) * size - r, left);
-        lay_row(card, s, node(card, s, top, h - 1, q), i, r, given, at, m);
+        lay_row(card, s, node(card, s, top, h - 1, q), i, r, &*given, at, m);
         q += 1;
         i = 0;
         r = 0;
