@@ -1,0 +1,5 @@
+// The check: the eight rules, each on the footing of the earlier ones.
+
+pub mod forms;
+pub mod header;
+pub mod table;
