@@ -1,2 +1,4 @@
 pub mod Heading
 pub mod Shaped
+pub mod Uses
+pub mod Chained

@@ -1,5 +1,7 @@
 // The check: the eight rules, each on the footing of the earlier ones.
 
 pub mod forms;
+pub mod free;
 pub mod header;
 pub mod table;
+pub mod used;
