@@ -1,16 +1,19 @@
 -- The free chain, marked: the loop along it, and the definition's list.
-use mathlib.Core.Path.{_≡_, refl}
+use mathlib.Core.Path.{_≡_, refl, ap, _∙_}
 use mathlib.Core.Bool.{Bool, true, false}
 use mathlib.Core.List.{List, [], _∷_, _++_}
 use Prim.Native.Nat.{ℕ, zero, suc, _+_, _-_, _≤_, _<_}
 use native.Mathlib.Numerals.{sub-one}
 use native.Mathlib.Omega.{arith}
-use lib.ListN.{set}
+use lib.ListN.{length, getD, set, replicate}
+use lib.Dec.{eqb}
 use borrow.Author.Tests.{eq-eqb, ne-eqb}
-use Rattle.layout.specs.Bytes.{end8, pick}
-use Rattle.layout.specs.Marks.{fresh}
+use Rattle.layout.specs.Bytes.{both, over, end8, pick}
+use Rattle.layout.specs.Marks.{fresh, markOk, markSet, fallingIn}
 use Rattle.layout.specs.Blocks.{walk, next, firstFree, chain}
-use Rattle.blocks.proofs.Walking.{Marked, Rest, one-marked, rest-goes, rest-stops, rest-ends}
+use Rattle.layout.specs.Sound.{used, rule7}
+use Rattle.laws.proofs.Marking.{mark-separate, mark-count}
+use Rattle.blocks.proofs.Walking.{Marked, Rest, cleared, part-goes, one-marked, rest-goes, rest-stops, rest-ends}
 use Rattle.blocks.proofs.Links.{chain-start}
 use Rattle.layout.specs.declared.Shape.{Shape}
 
@@ -48,3 +51,52 @@ module _ (c : List ℕ) (s : Shape) (left b : ℕ) (m m₀ bs₀ : List ℕ) (re
 
 pub chain-begun : (c : List ℕ) (s : Shape) (b : ℕ) (m : List ℕ) → b ≡ firstFree c s → Rest (s .count) m (walk (s .count + 1) (next c s) b) m (chain c s)
 chain-begun c s b m e = rw (chain-start c s b e) (refl, refl)
+
+-- ---- counting the marks
+
+fall-skip : (m : List ℕ) (x l : ℕ) → 1 ≤ l → x ≡ getD m (l - 1) 0 → x ≡ 0 → fallingIn (l - 1) m ≡ fallingIn l m
+unfolding fallingIn
+fall-skip m x (suc l) h e z = rw (sub-one (suc l), ← rw (sub-one (suc l)) at e, eq-eqb x 0 z)
+
+fall-take : (m : List ℕ) (x l : ℕ) → 1 ≤ l → x ≡ getD m (l - 1) 0 → (x ≡ 0 → ⊥) → (l - 1) ∷ fallingIn (l - 1) m ≡ fallingIn l m
+unfolding fallingIn
+fall-take m x (suc l) h e z = rw (sub-one (suc l), ← rw (sub-one (suc l)) at e, ne-eqb x 0 z)
+
+module _ (m : List ℕ) (left x : ℕ) (more : 1 ≤ left) (e : x ≡ getD m (left - 1) 0) where
+  pub count-none : x ≡ 0 → length (fallingIn (left - 1) m) ≡ length (fallingIn left m)
+  count-none z = ap length (fall-skip m x left more e z)
+
+  pub count-one : (x ≡ 0 → ⊥) → suc (length (fallingIn (left - 1) m)) ≡ length (fallingIn left m)
+  count-one z = ap length (fall-take m x left more e z)
+
+pub count-done : (m : List ℕ) (left found n : ℕ) → left ≤ 0 → found + length (fallingIn left m) ≡ n → found ≡ n
+unfolding fallingIn
+count-done m zero found n h e = omega arith
+count-done m (suc left) found n h e = absurd (omega arith)
+
+-- ---- rule 7
+
+module _ (n : ℕ) (m m′ bs : List ℕ) (r : Bool) (p : Marked n m bs r m′) where
+  pub left-over : r ≡ false → false ≡ both (markOk n m bs) (eqb (length (fallingIn n (markSet n m bs))) n)
+  left-over f = rw (← p .0, f)
+
+  pub none-over : (k : ℕ) → r ≡ true → k ≡ length (fallingIn n m′) → eqb k n ≡ both (markOk n m bs) (eqb (length (fallingIn n (markSet n m bs))) n)
+  none-over k f e = rw (← p .0, f, e, p .1)
+
+-- with the blocks in use marked before, it is the definition's
+pub rule7-is : (c : List ℕ) (s : Shape) (m m₁ m₂ : List ℕ) (r : Bool) → s .count ≤ length m → m₁ ≡ over m 0 (replicate (s .count) 0) → Marked (s .count) m₁ (used c s) true m₂
+    → r ≡ both (markOk (s .count) m₂ (chain c s)) (eqb (length (fallingIn (s .count) (markSet (s .count) m₂ (chain c s)))) (s .count)) → r ≡ rule7 c s
+unfolding rule7
+rule7-is c s m m₁ m₂ r long a p e =
+    let n = s .count in
+    let all = used c s ++ chain c s in
+    let y = cleared m m₁ n long a in
+    let q : Marked n m₁ all (markOk n m₂ (chain c s)) (markSet n m₂ (chain c s)) = part-goes n m₁ m₂ _ (used c s) (chain c s) true _ p refl (refl, refl) in
+    e ∙ rw (q .0, q .1) (by (markOk n m₁ all) refl (mark-count n m₁ (y .0) (y .1) all) ∙ rw (mark-separate n m₁ (y .0) (y .1) all))
+  where
+    by : (t : Bool) → markOk (s .count) m₁ (used c s ++ chain c s) ≡ t
+        → (markOk (s .count) m₁ (used c s ++ chain c s) ≡ true → length (fallingIn (s .count) (markSet (s .count) m₁ (used c s ++ chain c s))) ≡ length (used c s ++ chain c s))
+        → both (markOk (s .count) m₁ (used c s ++ chain c s)) (eqb (length (fallingIn (s .count) (markSet (s .count) m₁ (used c s ++ chain c s)))) (s .count))
+        ≡ both (markOk (s .count) m₁ (used c s ++ chain c s)) (eqb (length (used c s ++ chain c s)) (s .count))
+    by true e f = rw (f e)
+    by false e f = rw e

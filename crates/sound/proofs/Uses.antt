@@ -1,16 +1,19 @@
 -- The blocks in use: the loop over the descriptors, and the definition's list.
-use mathlib.Core.Path.{_≡_, refl, sym}
+use mathlib.Core.Path.{_≡_, refl, sym, _∙_}
 use mathlib.Core.Bool.{Bool, true, false}
 use mathlib.Core.List.{List, [], _∷_, _++_}
 use Prim.Native.Nat.{ℕ, zero, suc, _+_, _-_, _*_, _≤_, _<_}
 use native.Mathlib.Numerals.{sub-one}
 use native.Mathlib.Omega.{arith}
-use lib.ListN.{replicate}
+use lib.ListN.{length, replicate}
 use borrow.Author.Tests.{eq-eqb, ne-eqb}
 use Rattle.layout.specs.Bytes.{over, end8, run, those, join, pick}
+use Rattle.layout.specs.Marks.{markOk}
+use Rattle.layout.specs.Sound.{used, rule6}
+use Rattle.laws.proofs.Marking.{mark-separate}
 use Rattle.layout.specs.Blocks.{pyramid}
-use Rattle.layout.specs.Streams.{dataOf, descIn, descOf, dead, live, stream, streamBlocks, table, tableBlocks, tableBytes}
-use Rattle.blocks.proofs.Walking.{Marked, Rest, none-marked, part-stops, part-goes, rest-goes, rest-stops, rest-ends}
+use Rattle.layout.specs.Streams.{dataOf, descIn, descOf, dead, live, lives, slots, stream, streamBlocks, table, tableBlocks, tableBytes}
+use Rattle.blocks.proofs.Walking.{Marked, Rest, cleared, none-marked, part-stops, part-goes, rest-goes, rest-stops, rest-ends}
 use Rattle.sound.specs.Used.{blocksOf, usedFrom}
 use Rattle.layout.specs.declared.Shape.{Shape}
 use Rattle.layout.specs.declared.Desc.{Desc}
@@ -78,3 +81,14 @@ module _ (c : List ℕ) (s : Shape) (tab : List ℕ) (agree : (k : ℕ) → desc
   unfolding usedFrom those run join blocksOf live dead streamBlocks stream
   used-is from zero = refl
   used-is from (suc n) = rw (agree from, used-is (from + 1) n) (sym (join-pick (streamBlocks c s) (live (tableBytes c s) from) from (those (live (tableBytes c s)) (run (from + 1) n))))
+
+  used-all : (n : ℕ) → n ≡ slots (tableBytes c s) → tableBlocks c s ++ usedFrom c s tab 0 n ≡ used c s
+  unfolding used lives
+  used-all n e = rw (used-is 0 n, e)
+
+  pub rule6-is : (n : ℕ) (m : List ℕ) (r : Bool) → n ≡ slots (tableBytes c s) → s .count ≤ length m
+      → r ≡ markOk (s .count) (over m 0 (replicate (s .count) 0)) (tableBlocks c s ++ usedFrom c s tab 0 n) → r ≡ rule6 c s
+  unfolding rule6
+  rule6-is n m r e long f =
+      let y = cleared m _ (s .count) long refl in
+      f ∙ rw (used-all n e) (mark-separate (s .count) _ (y .0) (y .1) (used c s))

@@ -3,8 +3,13 @@ use blocks::chain::first_free;
 use blocks::chain::next;
 use blocks::marks::mark;
 use layout::Shape;
+use memory::bytes::byte;
 ghost use mathlib.Core.Path.{_≡_};
-ghost use Rattle.layout.specs.Marks.{markOk, markSet};
+ghost use Prim.Native.Nat.{_≤_};
+ghost use lib.ListN.{length};
+ghost use lib.Dec.{eqb};
+ghost use Rattle.layout.specs.Bytes.{both};
+ghost use Rattle.layout.specs.Marks.{markOk, markSet, fallingIn};
 ghost use Rattle.layout.specs.Blocks.{chain};
 ghost use Rattle.layout.specs.Ranges.{Small};
 
@@ -27,4 +32,31 @@ pub fn mark_chain(card: &[u8], s: Shape, marks: &mut [u8]) -> bool
         left -= 1;
     }
     true
+}
+
+// How many of the first `n` blocks are marked.
+fn count_marks(marks: &[u8], n: usize) -> usize
+    ensures { λ r. ⌜ (r ≡ length (fallingIn n (now (marks .entry)))) × (r ≤ n) ⌝ }
+{
+    let mut left = n;
+    let mut found = 0;
+    while 0 < left {
+        left -= 1;
+        if byte(&*marks, left) != 0 {
+            found += 1;
+        }
+    }
+    found
+}
+
+// Rule 7, on marks that hold the blocks in use: the chain's blocks are apart from them, and then no block is left over.
+pub fn rule7(card: &[u8], s: Shape, marks: &mut [u8]) -> bool
+    requires { ⌜ Small (now card) s ⌝ }
+    ensures { λ r. ⌜ (r ≡ both (markOk (s .count) (now (marks .entry)) (chain (now (card .entry)) s)) (eqb (length (fallingIn (s .count) (markSet (s .count) (now (marks .entry)) (chain (now (card .entry)) s)))) (s .count))) × (now (marks .exit) ≡ markSet (s .count) (now (marks .entry)) (chain (now (card .entry)) s)) ⌝ }
+{
+    if !mark_chain(&*card, s, marks) {
+        return false;
+    }
+    let count = s.count;
+    count_marks(&*marks, count) == count
 }
