@@ -2,19 +2,20 @@
 use mathlib.Core.Path.{_≡_, refl, sym, ap, _∙_}
 use mathlib.Core.Bool.{Bool, true, false, not}
 use mathlib.Core.List.{List}
-use Prim.Native.Nat.{ℕ, _-_, _*_, _%_, _≤_, _<_}
+use Prim.Native.Nat.{ℕ, zero, suc, _+_, _-_, _*_, _%_, _≤_, _<_}
 use native.Mathlib.Nat.{div-add-mod', add-zero}
+use native.Mathlib.Numerals.{sub-one}
 use native.Mathlib.Decide.{ℕ-discrete}
 use native.Mathlib.Omega.{arith}
 use lib.ListN.{length, replicate}
 use lib.Dec.{eqb}
 use borrow.Author.Tests.{eq-eqb, ne-eqb}
-use Rattle.layout.specs.Bytes.{pick, both, over, end8}
+use Rattle.layout.specs.Bytes.{pick, both, over, end8, run, allB}
 use Rattle.layout.specs.Pyramid.{up}
 use Rattle.layout.specs.Marks.{markOk}
 use Rattle.layout.specs.Blocks.{surplus}
-use Rattle.layout.specs.Streams.{dataOf, table, tableBlocks}
-use Rattle.layout.specs.Sound.{rightDesc, liveForm, freeForm, rule4}
+use Rattle.layout.specs.Streams.{dataOf, descIn, descOf, dead, live, table, tableBlocks}
+use Rattle.layout.specs.Sound.{rightDesc, liveForm, freeForm, goodForm, rule4}
 use Rattle.laws.proofs.Picks.{leb-yes, leb-no}
 use Rattle.laws.proofs.Levels.{div-is}
 use Rattle.laws.proofs.Marking.{mark-separate}
@@ -79,6 +80,29 @@ form-free s t r e f = rw (eq-eqb (t .top) end8 e, f)
 
 pub form-live : (s : Shape) (t : Desc) (r : Bool) → (t .top ≡ end8 → ⊥) → r ≡ liveForm s t → r ≡ pick (not (eqb (t .top) end8)) (liveForm s t) (freeForm t)
 form-live s t r e f = rw (ne-eqb (t .top) end8 e, f)
+
+-- ---- all descriptors
+
+module _ (s : Shape) (tab : List ℕ) where
+  form-is : (k : ℕ) (t : Desc) (r : Bool) → t ≡ descIn tab (8 + 25 * k) → r ≡ pick (not (eqb (t .top) end8)) (liveForm s t) (freeForm t) → r ≡ goodForm s tab k
+  unfolding live dead descOf
+  form-is k t r e f = f ∙ rw e
+
+  all-step : (k left : ℕ) → 0 < left → allB (goodForm s tab) (run k left) ≡ both (goodForm s tab k) (allB (goodForm s tab) (run (k + 1) (left - 1)))
+  unfolding allB run
+  all-step k (suc left) h = rw (sub-one (suc left))
+
+  module _ (k left : ℕ) (t : Desc) (r : Bool) (more : 0 < left) (e : t ≡ descIn tab (8 + 25 * k)) (f : r ≡ pick (not (eqb (t .top) end8)) (liveForm s t) (freeForm t)) where
+    pub forms-stop : r ≡ false → false ≡ allB (goodForm s tab) (run k left)
+    forms-stop z = let g : goodForm s tab k ≡ false = sym (form-is k t r e f) ∙ z in rw (all-step k left more, g)
+
+    pub forms-turn : r ≡ true → allB (goodForm s tab) (run (k + 1) (left - 1)) ≡ allB (goodForm s tab) (run k left)
+    forms-turn z = let g : goodForm s tab k ≡ true = sym (form-is k t r e f) ∙ z in rw (all-step k left more, g)
+
+  pub forms-done : (k left : ℕ) → left ≤ 0 → true ≡ allB (goodForm s tab) (run k left)
+  unfolding allB run
+  forms-done k zero h = refl
+  forms-done k (suc left) h = absurd (omega arith)
 
 -- ---- rule 4
 

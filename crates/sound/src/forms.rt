@@ -2,12 +2,13 @@
 use blocks::pyramid::up;
 use layout::Desc;
 use layout::Shape;
+use stream::descs::descriptor;
 ghost use mathlib.Core.Path.{_≡_};
 ghost use mathlib.Core.Bool.{not};
 ghost use Prim.Native.Nat.{_≤_};
 ghost use lib.Dec.{eqb};
-ghost use Rattle.layout.specs.Bytes.{pick, end8};
-ghost use Rattle.layout.specs.Sound.{rightDesc, liveForm, freeForm};
+ghost use Rattle.layout.specs.Bytes.{pick, end8, run, allB};
+ghost use Rattle.layout.specs.Sound.{rightDesc, liveForm, freeForm, goodForm};
 
 // Flags and reserved are right, and there are no more data blocks than the card has blocks. What is reserved is compared by
 // blocks and by rest, so that no product can be too large.
@@ -61,4 +62,21 @@ pub fn good_form(s: Shape, t: Desc) -> bool
         return free_form(t);
     }
     live_form(s, t)
+}
+
+// The first `n` descriptors in the table's bytes are well formed.
+pub fn good_forms(s: Shape, tab: &[u8], n: usize) -> bool
+    requires { ⌜ (64 ≤ s .size) × (n ≤ 65536) ⌝ }
+    ensures { λ r. ⌜ r ≡ allB (goodForm s (now (tab .entry))) (run 0 n) ⌝ }
+{
+    let mut k = 0;
+    let mut left = n;
+    while 0 < left {
+        if !good_form(s, descriptor(&*tab, 8 + 25 * k)) {
+            return false;
+        }
+        k += 1;
+        left -= 1;
+    }
+    true
 }
