@@ -2,3 +2,4 @@ pub mod Heading
 pub mod Shaped
 pub mod Uses
 pub mod Chained
+pub mod Compared
