@@ -18,17 +18,17 @@ use Rattle.blocks.proofs.Links.{chain-start}
 use Rattle.layout.specs.declared.Shape.{Shape}
 
 module _ (next : ℕ → ℕ) where
-  list-end : (left b : ℕ) → b ≡ end8 → walk left next b ≡ []
+  pub list-end : (left b : ℕ) → b ≡ end8 → walk left next b ≡ []
   unfolding walk
   list-end zero b e = refl
   list-end (suc left) b e = rw (eq-eqb b end8 e)
 
-  list-out : (left b : ℕ) → left ≤ 0 → walk left next b ≡ []
+  pub list-out : (left b : ℕ) → left ≤ 0 → walk left next b ≡ []
   unfolding walk
   list-out zero b e = refl
   list-out (suc left) b e = absurd (omega arith)
 
-  list-step : (left b b′ : ℕ) → 0 < left → (b ≡ end8 → ⊥) → b′ ≡ next b → walk left next b ≡ (b ∷ []) ++ walk (left - 1) next b′
+  pub list-step : (left b b′ : ℕ) → 0 < left → (b ≡ end8 → ⊥) → b′ ≡ next b → walk left next b ≡ (b ∷ []) ++ walk (left - 1) next b′
   unfolding walk
   list-step (suc left) b b′ h e f = rw (f, sub-one (suc left), ne-eqb b end8 e)
 

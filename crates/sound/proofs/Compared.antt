@@ -105,13 +105,13 @@ module _ (n : ℕ) (m : List ℕ) (long : n ≤ length m) (zeros : (k : ℕ) →
     right-same = same-of xs ys
         (unmap xs (is-separate n ks .out sep .1))
         (map-distinct enc (those p (run 0 n)) (those-distinct p (run 0 n) (run-distinct 0 n)) (λ a b i j e.
-            sym (key-enc a (omega (arith, run-in 0 n a (those-in p (run 0 n) a i .0)))) ∙ ap key e ∙ key-enc b (omega (arith, run-in 0 n b (those-in p (run 0 n) b j .0)))))
+        sym (key-enc a (omega (arith, run-in 0 n a (those-in p (run 0 n) a i .0)))) ∙ ap key e ∙ key-enc b (omega (arith, run-in 0 n b (those-in p (run 0 n) b j .0)))))
         (λ x i. (let k = key x in let l = in-run 0 n k (omega arith) (omega (arith, in-range x i)) in
-            rw (is-enc x i) (in-map enc k (those p (run 0 n)) (in-those p (run 0 n) k l (right k l .1 (is-holds k ks .back (in-map key x xs i)))))))
+        rw (is-enc x i) (in-map enc k (those p (run 0 n)) (in-those p (run 0 n) k l (right k l .1 (is-holds k ks .back (in-map key x xs i)))))))
         (λ y i. (let r = map-in enc y (those p (run 0 n)) i in let u = those-in p (run 0 n) (r .0) (r .1) in
-            let v = map-in key (r .0) xs (is-holds (r .0) ks .out (right (r .0) (u .0) .0 (u .1))) in
-            let e : y ≡ v .0 = r .2 ∙ ap enc (v .2) ∙ sym (is-enc (v .0) (v .1)) in
-            rw e (v .1)))
+        let v = map-in key (r .0) xs (is-holds (r .0) ks .out (right (r .0) (u .0) .0 (u .1))) in
+        let e : y ≡ v .0 = r .2 ∙ ap enc (v .2) ∙ sym (is-enc (v .0) (v .1)) in
+        rw e (v .1)))
       where
         unmap : (xs : List ℕ) → Distinct (map key xs) → Distinct xs
         unmap [] d = tt

@@ -3,3 +3,4 @@ pub mod Shaped
 pub mod Uses
 pub mod Chained
 pub mod Compared
+pub mod Spares

@@ -3,5 +3,6 @@
 pub mod forms;
 pub mod free;
 pub mod header;
+pub mod spare;
 pub mod table;
 pub mod used;
