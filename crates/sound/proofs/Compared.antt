@@ -28,7 +28,7 @@ same-test {a} {b} {A} {B} p q f g = go a b (λ t. q .back (f (p .out t))) (λ t.
     go false false f g = refl
 
 -- a test of all of a list, by what it says of those that stand there
-is-all-in : {A : Type 0} (p : A → Bool) (Q : A → Type 0) (xs : List A) → ((x : A) → In x xs → Is (p x) (Q x)) → Is (allB p xs) ((x : A) → In x xs → Q x)
+pub is-all-in : {A : Type 0} (p : A → Bool) (Q : A → Type 0) (xs : List A) → ((x : A) → In x xs → Is (p x) (Q x)) → Is (allB p xs) ((x : A) → In x xs → Q x)
 unfolding allB
 is-all-in p Q [] h = record { out = λ t x i. absurd i; back = λ f. tt }
 is-all-in {A} p Q (y ∷ xs) h =

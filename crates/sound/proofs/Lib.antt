@@ -4,3 +4,4 @@ pub mod Uses
 pub mod Chained
 pub mod Compared
 pub mod Spares
+pub mod Buckets

@@ -1,5 +1,6 @@
 // The check: the eight rules, each on the footing of the earlier ones.
 
+pub mod apart;
 pub mod forms;
 pub mod free;
 pub mod header;

@@ -1,0 +1,50 @@
+// Whether a directory's names differ: in buckets, so that a name is compared only with the earlier ones of its own.
+use filing::entries::read_head;
+use filing::names::name_is;
+use layout::Desc;
+use layout::Shape;
+use memory::bytes::number;
+use memory::bytes::put_number;
+use memory::numbers::least;
+use memory::numbers::wide;
+use stream::gather::gather_stream;
+ghost use mathlib.Core.Path.{_≡_};
+ghost use mathlib.Core.Logic.{_≢_};
+ghost use Prim.Native.Nat.{_+_, _-_, _^_, _<_, _≤_};
+ghost use lib.ListN.{length, getD};
+ghost use Rattle.layout.specs.Bytes.{pick};
+ghost use Rattle.layout.specs.Filing.{nameLength, entryAt, entries, nothing, distinctNames};
+ghost use Rattle.layout.specs.Ranges.{Small};
+ghost use Rattle.sound.specs.Buckets.{bucketOf, nameAt, among, Linked, Filed};
+ghost use Rattle.sound.specs.Rooted.{bytesOf, Tidy};
+
+// The bucket of a name.
+fn bucket(name: &[u8]) -> usize
+    ensures { λ r. ⌜ (r ≡ bucketOf (now (name .entry))) × (r < 1024) ⌝ }
+{
+    let mut h = 0;
+    let mut i = 0;
+    while i < name.len() {
+        h = (h * 31 + wide(name[i])) % 65536;
+        i += 1;
+    }
+    h % 1024
+}
+
+// Whether one of the first `x` entries has that name, where the last of them is in its bucket.
+fn met(card: &[u8], s: Shape, t: Desc, links: &[u8], x: usize, name: &[u8]) -> bool
+    requires { ⌜ Small (now card) s × (length (now name) ≤ 64) × (x ≤ 65536) × (x ≤ length (entries (bytesOf (now card) s t))) × Linked (entries (bytesOf (now card) s t)) x (now links) × (x ≢ 0 → bucketOf (nameAt (entries (bytesOf (now card) s t)) (x - 1)) ≡ bucketOf (now name)) ⌝ }
+    ensures { λ r. ⌜ r ≡ among (entries (bytesOf (now (card .entry)) s t)) x (now (name .entry)) ⌝ }
+{
+    let mut left = x;
+    while 0 < left {
+        let j = left - 1;
+        let at = number(&*links, 8 * j, 4);
+        let n = read_head(&*card, s, t, at).length;
+        if name_is(&*card, s, t, at + 6, n, &*name) {
+            return true;
+        }
+        left = number(&*links, 8 * j + 4, 4);
+    }
+    false
+}
