@@ -33,7 +33,7 @@ hash-done name h i l e = let a : h ≡ hashFrom 0 name = rw (drop-of-length-le n
 -- ---- who is met
 
 module _ (es : List Entry) where
-  last-le : (h i : ℕ) → lastIn es h i ≤ i
+  pub last-le : (h i : ℕ) → lastIn es h i ≤ i
   unfolding lastIn
   last-le h zero = omega arith
   last-le h (suc i) = go (eqb (bucketOf (nameAt es i)) h) (last-le h i)
@@ -42,7 +42,7 @@ module _ (es : List Entry) where
       go true l = omega arith
       go false l = omega arith
 
-  last-own : (h i : ℕ) → lastIn es h i ≢ 0 → bucketOf (nameAt es (lastIn es h i - 1)) ≡ h
+  pub last-own : (h i : ℕ) → lastIn es h i ≢ 0 → bucketOf (nameAt es (lastIn es h i - 1)) ≡ h
   unfolding lastIn
   last-own h zero z = absurd (z refl)
   last-own h (suc i) z = elim (ℕ-discrete (bucketOf (nameAt es i)) h) [
@@ -51,7 +51,7 @@ module _ (es : List Entry) where
   ]
 
   -- those after the bucket's last one have other names
-  among-last : (name : List ℕ) (h i : ℕ) → bucketOf name ≡ h → among es (lastIn es h i) name ≡ among es i name
+  pub among-last : (name : List ℕ) (h i : ℕ) → bucketOf name ≡ h → among es (lastIn es h i) name ≡ among es i name
   unfolding among lastIn
   among-last name h zero e = refl
   among-last name h (suc i) e = elim (ℕ-discrete (bucketOf (nameAt es i)) h) [

@@ -5,3 +5,4 @@ pub mod Chained
 pub mod Compared
 pub mod Spares
 pub mod Buckets
+pub mod Filed

@@ -16,7 +16,7 @@ ghost use Rattle.layout.specs.Bytes.{pick};
 ghost use Rattle.layout.specs.Filing.{nameLength, entryAt, entries, nothing, distinctNames};
 ghost use Rattle.layout.specs.Ranges.{Small};
 ghost use Rattle.sound.specs.Buckets.{bucketOf, nameAt, among, Linked, Filed};
-ghost use Rattle.sound.specs.Rooted.{bytesOf, Tidy};
+ghost use Rattle.sound.specs.Rooted.{bytesOf, Tidy, Here};
 
 // The bucket of a name.
 fn bucket(name: &[u8]) -> usize
@@ -47,4 +47,32 @@ fn met(card: &[u8], s: Shape, t: Desc, links: &[u8], x: usize, name: &[u8]) -> b
         left = number(&*links, 8 * j + 4, 4);
     }
     false
+}
+
+// Files entry `i`, which is at `at`, in its bucket and gives its name's length; 0 where an earlier entry has its name.
+fn file_entry(
+    card: &[u8],
+    s: Shape,
+    t: Desc,
+    at: usize,
+    i: usize,
+    heads: &mut [u8],
+    links: &mut [u8],
+) -> usize
+    requires { ⌜ Small (now card) s × Here (bytesOf (now card) s t) at i × Filed (entries (bytesOf (now card) s t)) i (now heads) (now links) ⌝ }
+    ensures { λ r. ⌜ (r ≡ pick (among (entries (bytesOf (now (card .entry)) s t)) i (nameAt (entries (bytesOf (now (card .entry)) s t)) i)) 0 (nameLength (bytesOf (now (card .entry)) s t) at)) × (r ≢ 0 → Filed (entries (bytesOf (now (card .entry)) s t)) (i + 1) (now (heads .exit)) (now (links .exit))) ⌝ }
+{
+    let mut page = [0; 70];
+    gather_stream(&*card, s, t, at, &mut page, 0, 70);
+    let n = number(&page, 4, 2);
+    let e = 6 + least(n, 64);
+    let h = bucket(&page[6..e]);
+    let x = number(&*heads, 4 * h, 4);
+    if met(&*card, s, t, &*links, x, &page[6..e]) {
+        return 0;
+    }
+    put_number(links, 8 * i, 4, at);
+    put_number(links, 8 * i + 4, 4, x);
+    put_number(heads, 4 * h, 4, i + 1);
+    n
 }
