@@ -6,3 +6,6 @@ pub mod Compared
 pub mod Spares
 pub mod Buckets
 pub mod Filed
+pub mod Rooted
+pub mod Differ
+pub mod Reached

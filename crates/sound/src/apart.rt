@@ -76,3 +76,32 @@ fn file_entry(
     put_number(heads, 4 * h, 4, i + 1);
     n
 }
+
+// Files the entries one after the other, up to the first whose name was met.
+fn file_entries(card: &[u8], s: Shape, t: Desc, heads: &mut [u8], links: &mut [u8]) -> bool
+    requires { ⌜ Small (now card) s × Tidy (bytesOf (now card) s t) × Filed (entries (bytesOf (now card) s t)) 0 (now heads) (now links) ⌝ }
+    ensures { λ r. ⌜ r ≡ distinctNames (entries (bytesOf (now (card .entry)) s t)) ⌝ }
+{
+    let size = t.size;
+    let mut at = 0;
+    let mut i = 0;
+    while at < size {
+        let n = file_entry(&*card, s, t, at, i, heads, links);
+        if n == 0 {
+            return false;
+        }
+        at = at + 6 + n;
+        i += 1;
+    }
+    true
+}
+
+// Whether no name stands twice in the directory that `t` describes.
+pub fn names_apart(card: &[u8], s: Shape, t: Desc) -> bool
+    requires { ⌜ Small (now card) s × Tidy (bytesOf (now card) s t) ⌝ }
+    ensures { λ r. ⌜ r ≡ distinctNames (entries (bytesOf (now (card .entry)) s t)) ⌝ }
+{
+    let mut heads = [0; 4096];
+    let mut links = [0; 2048];
+    file_entries(card, s, t, &mut heads, &mut links)
+}

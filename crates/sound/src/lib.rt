@@ -4,6 +4,7 @@ pub mod apart;
 pub mod forms;
 pub mod free;
 pub mod header;
+pub mod root;
 pub mod spare;
 pub mod table;
 pub mod used;

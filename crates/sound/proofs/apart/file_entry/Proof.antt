@@ -82,13 +82,14 @@ met-requires c κs =
     let at-least = c .before .before .before .before .before .before .before .before .least in
     let at-bucket = c .before .before .before .before .before .bucket in
     let at-number2 = c .before .before .before .number2 in
-    let x-low = x-le _ _ _ (at-start .pre .1) _ _ (at-start .pre .2) _ (at-gather-stream .ensures) _ _ (at-number .ensures .0) (at-least .ensures) _ refl _ _ (at-bucket .ensures .0) (at-bucket .ensures .1) (at-number2 .ensures .0) in
-    (at-start .pre .0,
+    let x-low = x-le _ _ _ (at-start .pre .1) _ _ (at-start .pre .2) _ (at-gather-stream .ensures) _ _ (at-number .ensures .0) (at-least .ensures) _ refl _ _ (at-bucket .ensures .0) (at-bucket .ensures .1) (at-number2 .ensures .0) in (
+      at-start .pre .0,
       name-short _ _ _ (at-start .pre .1) _ _ (at-start .pre .2) _ (at-gather-stream .ensures) _ _ (at-number .ensures .0) (at-least .ensures) _ refl,
       omega (arith, x-low, at-start .pre .1 .few),
       omega (arith, x-low, at-start .pre .1 .inside),
       x-linked _ _ _ (at-start .pre .1) _ _ (at-start .pre .2) _ (at-gather-stream .ensures) _ _ (at-number .ensures .0) (at-least .ensures) _ refl _ _ (at-bucket .ensures .0) (at-bucket .ensures .1) (at-number2 .ensures .0),
-      x-own _ _ _ (at-start .pre .1) _ _ (at-start .pre .2) _ (at-gather-stream .ensures) _ _ (at-number .ensures .0) (at-least .ensures) _ refl _ _ (at-bucket .ensures .0) (at-bucket .ensures .1) (at-number2 .ensures .0))
+      x-own _ _ _ (at-start .pre .1) _ _ (at-start .pre .2) _ (at-gather-stream .ensures) _ _ (at-number .ensures .0) (at-least .ensures) _ refl _ _ (at-bucket .ensures .0) (at-bucket .ensures .1) (at-number2 .ensures .0),
+    )
 
 -- src/apart.rt:72:9
 same-length : tie.Need-same-length
@@ -170,9 +171,10 @@ returns-2 c =
     let at-if1 = c .before .before .before .before .before .before .before .before .before .before .before .before .if1 in
     let at-put-number = c .before .before .before .before .before .before .before .before .before .before .put-number in
     let at-put-number2 = c .before .before .before .before .before .before .put-number2 in
-    let at-put-number3 = c .before .before .put-number3 in
-    (file-new _ _ _ (at-start .pre .1) _ _ (at-start .pre .2) _ (at-gather-stream .ensures) _ _ (at-number .ensures .0) (at-least .ensures) _ refl _ _ (at-bucket .ensures .0) (at-bucket .ensures .1) (at-number2 .ensures .0) _ (at-met .ensures) (at-if1 .left),
-      λ z. file-filed _ _ _ (at-start .pre .1) _ _ (at-start .pre .2) _ (at-gather-stream .ensures) _ _ (at-number .ensures .0) (at-least .ensures) _ refl _ _ (at-bucket .ensures .0) (at-bucket .ensures .1) (at-number2 .ensures .0) _ _ _ (at-put-number .ensures) (at-put-number2 .ensures) (at-put-number3 .ensures))
+    let at-put-number3 = c .before .before .put-number3 in (
+      file-new _ _ _ (at-start .pre .1) _ _ (at-start .pre .2) _ (at-gather-stream .ensures) _ _ (at-number .ensures .0) (at-least .ensures) _ refl _ _ (at-bucket .ensures .0) (at-bucket .ensures .1) (at-number2 .ensures .0) _ (at-met .ensures) (at-if1 .left),
+      λ z. file-filed _ _ _ (at-start .pre .1) _ _ (at-start .pre .2) _ (at-gather-stream .ensures) _ _ (at-number .ensures .0) (at-least .ensures) _ refl _ _ (at-bucket .ensures .0) (at-bucket .ensures .1) (at-number2 .ensures .0) _ _ _ (at-put-number .ensures) (at-put-number2 .ensures) (at-put-number3 .ensures),
+    )
 
 pub file-entry-spec : {M : Type 1} → statement M
 file-entry-spec =
