@@ -1,24 +1,20 @@
 -- Buckets of names: who is met there, and that names which differ from all earlier ones differ.
 use mathlib.Core.Path.{_≡_, refl, sym, ap, _∙_}
-use mathlib.Core.Logic.{_≢_, inl, inr}
-use mathlib.Core.Bool.{Bool, true, false, not}
-use mathlib.Core.List.{List, [], _∷_, map}
-use Prim.Native.Nat.{ℕ, zero, suc, _+_, _-_, _*_, _%_, _^_, _≤_, _<_}
+use mathlib.Core.Logic.{_≢_}
+use mathlib.Core.Bool.{Bool, true, false}
+use mathlib.Core.List.{List, [], _∷_}
+use Prim.Native.Nat.{ℕ, zero, suc, _+_, _-_, _*_, _%_, _≤_, _<_}
 use native.Mathlib.Numerals.{add-one}
-use native.Mathlib.Decide.{ℕ-discrete, decLt}
+use native.Mathlib.Decide.{ℕ-discrete}
 use native.Mathlib.Omega.{arith}
 use lib.ListN.{length, getD, take, drop, drop-of-length-le}
 use lib.Seq.{drop-cons}
 use lib.Dec.{leb, eqb, T}
 use borrow.Author.Tests.{eq-eqb, ne-eqb}
-use Rattle.layout.specs.Bytes.{pick, num, put, same, run, allB}
-use Rattle.layout.specs.Filing.{Entry, nameLength, entryAt, entriesFrom, entries, nothing, distinctNames}
-use Rattle.laws.proofs.ByteLaws.{num-put, num-put-same, length-put}
-use Rattle.laws.proofs.Lists.{In, Distinct, in-run, run-in}
-use Rattle.laws.proofs.Tests.{Is, is-not, is-same}
-use Rattle.laws.proofs.Entries.{is-names}
-use Rattle.sound.specs.Buckets.{hashFrom, bucketOf, nameAt, among, firstOf, lastIn, Linked, Headed, Filed}
-use Rattle.sound.proofs.Compared.{same-test, is-all-in}
+use Rattle.layout.specs.Bytes.{pick, num, same}
+use Rattle.layout.specs.Filing.{Entry, nameLength, entryAt, entriesFrom, entries, nothing}
+use Rattle.laws.proofs.Tests.{is-same}
+use Rattle.sound.specs.Buckets.{hashFrom, bucketOf, nameAt, among, lastIn, Linked}
 
 -- ---- the bucket of a name, byte by byte
 

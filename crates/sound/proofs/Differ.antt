@@ -6,7 +6,7 @@ use mathlib.Core.List.{List, [], _∷_, map}
 use Prim.Native.Nat.{ℕ, zero, suc, _+_, _-_, _*_, _≤_, _<_}
 use native.Mathlib.Decide.{ℕ-discrete}
 use native.Mathlib.Omega.{arith}
-use lib.ListN.{length, getD, drop, replicate, length-drop, length-replicate, getD-replicate}
+use lib.ListN.{length, drop, replicate, length-drop, length-replicate, getD-replicate}
 use lib.Dec.{T}
 use Rattle.layout.specs.Bytes.{pick, both, num, same, run, allB}
 use Rattle.layout.specs.Filing.{Entry, nameLength, entriesFrom, entries, nothing, distinctNames}

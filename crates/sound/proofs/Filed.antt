@@ -2,22 +2,20 @@
 use mathlib.Core.Path.{_≡_, refl, sym, ap, _∙_}
 use mathlib.Core.Logic.{_≢_}
 use mathlib.Core.Bool.{Bool, true, false}
-use mathlib.Core.List.{List, _∷_}
-use Prim.Native.Nat.{ℕ, zero, suc, _+_, _-_, _*_, _^_, min, _≤_, _<_}
+use mathlib.Core.List.{List}
+use Prim.Native.Nat.{ℕ, zero, suc, _+_, _-_, _*_, min, _≤_, _<_}
 use native.Mathlib.Nat.{add-zero}
 use native.Mathlib.Numerals.{add-one}
 use native.Mathlib.Decide.{ℕ-discrete, decLt}
 use native.Mathlib.Omega.{arith}
-use lib.ListN.{length, getD, take, drop, replicate, length-take, length-drop, length-replicate}
-use lib.Dec.{eqb}
+use lib.ListN.{length, getD, take, drop, replicate, length-take, length-replicate}
 use borrow.Author.Tests.{eq-eqb, ne-eqb}
-use Rattle.layout.specs.Limits.{longestName}
 use Rattle.layout.specs.Bytes.{pick, num, put, over, window}
-use Rattle.layout.specs.Filing.{Entry, nameLength, entryAt, entries, nothing}
+use Rattle.layout.specs.Filing.{Entry, nameLength, entries, nothing}
 use Rattle.laws.proofs.ByteLaws.{num-put, num-put-same, length-put, length-over}
 use Rattle.laws.proofs.Windows.{window-inside}
 use Rattle.stream.proofs.Fields.{page-byte, page-num}
-use Rattle.sound.specs.Buckets.{bucketOf, nameAt, among, lastIn, Linked, Headed, Filed}
+use Rattle.sound.specs.Buckets.{bucketOf, nameAt, among, lastIn, Linked, Filed}
 use Rattle.sound.specs.Rooted.{Here}
 use Rattle.sound.proofs.Buckets.{last-le, last-own, among-last}
 

@@ -9,3 +9,4 @@ pub mod Filed
 pub mod Rooted
 pub mod Differ
 pub mod Reached
+pub mod Lowest

@@ -1,27 +1,25 @@
 -- Rule 8: an entry tested and its stream marked, one after the other, and the definition.
 use mathlib.Core.Path.{_≡_, refl, sym, ap, _∙_}
-use mathlib.Core.Logic.{_≢_, inl, inr}
-use mathlib.Core.Bool.{Bool, true, false, not}
-use mathlib.Core.List.{List, [], _∷_, _++_, map}
-use Prim.Native.Nat.{ℕ, zero, suc, _+_, _-_, _*_, _/_, _%_, _^_, min, _≤_, _<_}
+use mathlib.Core.Bool.{Bool, true, false}
+use mathlib.Core.List.{List, [], _∷_, map}
+use Prim.Native.Nat.{ℕ, _+_, _-_, _*_, _%_, _^_, _≤_, _<_}
 use native.Mathlib.Nat.{div-add-mod', mod-lt, mul-le-mul}
-use native.Mathlib.Decide.{decLe}
 use native.Mathlib.Omega.{arith}
-use lib.ListN.{length, getD, take, drop, set, replicate, length-take, length-drop, length-map}
-use lib.Dec.{leb, eqb, T}
-use Rattle.layout.specs.Limits.{longestName, mostStreams}
+use lib.ListN.{length, take, drop, set, replicate, length-map}
+use lib.Dec.{eqb, T}
+use Rattle.layout.specs.Limits.{mostStreams}
 use Rattle.layout.specs.Bytes.{pick, both, num, over, run, those, allB}
 use Rattle.layout.specs.Pyramid.{up}
 use Rattle.layout.specs.Marks.{fresh, markOk, markSet}
-use Rattle.layout.specs.Streams.{dataOf, contents, descIn, descOf, live, lives, frees, descChain, slots, stream, streamBytes, tableBytes}
-use Rattle.layout.specs.Filing.{Entry, nameLength, entryAt, entriesFrom, entries, entriesOf, goodName, reads, readsFrom, distinctNames, goodDirectory}
+use Rattle.layout.specs.Streams.{dataOf, descIn, descOf, live, lives, frees, descChain, slots, stream, streamBytes, tableBytes}
+use Rattle.layout.specs.Filing.{Entry, nameLength, entriesFrom, entries, entriesOf, goodName, reads, readsFrom, distinctNames, goodDirectory}
 use Rattle.layout.specs.Sound.{rightDesc, liveForm, freeForm, goodForm, sameSet, reached, rule4, rule5, rule8}
 use Rattle.layout.specs.Ranges.{Small}
-use Rattle.laws.proofs.Picks.{leb-yes, leb-no}
+use Rattle.laws.proofs.Picks.{leb-yes}
 use Rattle.laws.proofs.Laying.{length-contents}
-use Rattle.laws.proofs.Lists.{In, in-run, length-run}
+use Rattle.laws.proofs.Lists.{in-run, length-run}
 use Rattle.laws.proofs.Sets.{distinct-le}
-use Rattle.laws.proofs.Tests.{Is, is-both, is-eqb, is-leb, is-itself, is-all, is-separate}
+use Rattle.laws.proofs.Tests.{is-both, is-eqb, is-leb, is-itself, is-all, is-separate}
 use Rattle.laws.proofs.Marking.{mark-separate}
 use Rattle.filing.proofs.Finding.{entries-step, entries-stop}
 use Rattle.blocks.proofs.Walking.{cleared}
@@ -29,7 +27,7 @@ use Rattle.sound.specs.Compared.{rightMark, asked}
 use Rattle.sound.specs.OnPage.{Reads}
 use Rattle.sound.specs.Rooted.{bytesOf, goodAt, named, tidyFrom, indices, Tidy}
 use Rattle.sound.proofs.Compared.{compared}
-use Rattle.sound.proofs.Filed.{page-long, page-length, page-index, page-name}
+use Rattle.sound.proofs.Filed.{page-length, page-name}
 use Rattle.sound.proofs.Rooted.{parts, name-long, tidy-step, tidy-stop}
 use Rattle.sound.proofs.Spares.{slots-few, desc-same, live-same}
 use Rattle.layout.specs.declared.Shape.{Shape}

@@ -1,21 +1,21 @@
 -- A directory read entry by entry: one turn, and what it says of the entry.
 use mathlib.Core.Path.{_≡_, refl, sym, ap, _∙_}
 use mathlib.Core.Bool.{Bool, true, false, not}
-use mathlib.Core.List.{List, [], _∷_}
-use Prim.Native.Nat.{ℕ, zero, suc, _+_, _-_, _^_, min, _≤_, _<_}
+use mathlib.Core.List.{List, _∷_}
+use Prim.Native.Nat.{ℕ, zero, suc, _+_, _-_, _≤_, _<_}
 use native.Mathlib.Nat.{add-zero}
 use native.Mathlib.Decide.{decLe}
 use native.Mathlib.Omega.{arith}
-use lib.ListN.{length, getD, take, drop, length-take, length-drop, length-append}
+use lib.ListN.{length, getD, drop, length-take, length-drop}
 use lib.Seq.{getD-drop, drop-drop}
-use lib.Dec.{leb, eqb, T}
+use lib.Dec.{leb, T}
 use borrow.Author.Tests.{eq-eqb}
-use Rattle.layout.specs.Limits.{longestName, mostStreams, slash}
-use Rattle.layout.specs.Bytes.{pick, both, allB, holds}
-use Rattle.layout.specs.Filing.{Entry, nameLength, entryAt, entriesFrom, entries, nothing, goodName, readsFrom, reads}
+use Rattle.layout.specs.Limits.{longestName, slash}
+use Rattle.layout.specs.Bytes.{both, allB, holds}
+use Rattle.layout.specs.Filing.{Entry, nameLength, entryAt, entriesFrom, entries, nothing, goodName, readsFrom}
 use Rattle.laws.proofs.Picks.{leb-yes, leb-no}
-use Rattle.laws.proofs.Tests.{Is, is-both, is-leb, is-itself}
-use Rattle.filing.proofs.Finding.{entries-start, entries-step, entries-stop}
+use Rattle.laws.proofs.Tests.{is-both, is-leb, is-itself}
+use Rattle.filing.proofs.Finding.{entries-step, entries-stop}
 use Rattle.sound.specs.Rooted.{goodAt, named, tidyFrom, Tidy, Here}
 
 four : (a b c d : Bool) → both (both a b) (both c d) ≡ both (both a c) (both b d)

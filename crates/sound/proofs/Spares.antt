@@ -8,19 +8,19 @@ use native.Mathlib.Numerals.{sub-one}
 use native.Mathlib.Decide.{ℕ-discrete, decLe, decLt}
 use native.Mathlib.Omega.{arith}
 use lib.ListN.{length, getD, take, drop, set, replicate, length-replicate, List·getD-eq-default}
-use lib.Dec.{leb, eqb, T}
+use lib.Dec.{eqb}
 use borrow.Author.Tests.{eq-eqb, ne-eqb}
 use Rattle.layout.specs.Limits.{mostStreams}
 use Rattle.layout.specs.Bytes.{pick, both, num, over, end8, run, those, allB, separate}
-use Rattle.layout.specs.Marks.{fresh, markOk, markSet}
+use Rattle.layout.specs.Marks.{fresh}
 use Rattle.layout.specs.Blocks.{walk}
-use Rattle.layout.specs.Streams.{dataOf, contents, descIn, descOf, dead, live, offset, slots, frees, firstDesc, descChain, table, tableBytes, tableBlocks}
+use Rattle.layout.specs.Streams.{dataOf, contents, descIn, descOf, dead, live, offset, slots, frees, descChain, table, tableBytes, tableBlocks, stream}
 use Rattle.layout.specs.Sound.{rightDesc, liveForm, freeForm, goodForm, sameSet, rule4, rule5}
 use Rattle.laws.proofs.Picks.{leb-yes, leb-no}
 use Rattle.laws.proofs.ByteLaws.{num-agree, length-over}
 use Rattle.laws.proofs.Laying.{length-contents}
 use Rattle.laws.proofs.Levels.{div-is, mod-is}
-use Rattle.laws.proofs.Tests.{Is, is-both, is-leb, is-itself}
+use Rattle.laws.proofs.Tests.{is-both, is-leb, is-itself}
 use Rattle.blocks.proofs.Walking.{Marked, Rest, cleared, one-marked, rest-goes, rest-stops, rest-ends}
 use Rattle.stream.proofs.Fields.{page-byte}
 use Rattle.sound.specs.Compared.{rightMark, asked, numberAt, spares}
@@ -173,6 +173,10 @@ module _ (tab l : List ℕ) (same : Reads tab l) where
       let d = ap (λ (g : ℕ → ℕ). g (at + 16)) (nums-same 8) in
       let g = same (at + 24) in
       λ i. record { size = a i; top = b i; reserved = d i; flags = g i }
+
+  pub stream-same : (c : List ℕ) (s : Shape) → l ≡ tableBytes c s → (k : ℕ) → descOf tab k ≡ stream c s k
+  unfolding stream
+  stream-same c s e k = desc-same k ∙ rw e
 
   pub dead-same : dead tab ≡ dead l
   unfolding dead

@@ -4,7 +4,7 @@ use Prim.Native.Nat.{ℕ, _+_, _-_, _/_, _%_}
 use mathlib.Core.List.{List, map}
 use lib.ListN.{getD}
 use lib.Dec.{leb, eqb}
-use Rattle.layout.specs.Bytes.{pick, both, num, end8}
+use Rattle.layout.specs.Bytes.{pick, num, end8}
 use Rattle.layout.specs.Blocks.{walk}
 use Rattle.layout.specs.Streams.{dead, live}
 

@@ -1,6 +1,7 @@
 // The check: the eight rules, each on the footing of the earlier ones.
 
 pub mod apart;
+pub mod check;
 pub mod forms;
 pub mod free;
 pub mod header;

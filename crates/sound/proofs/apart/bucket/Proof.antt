@@ -1,3 +1,4 @@
+-- `sound::apart::bucket` keeps its promise.
 use borrow.Author.Needs.{needs}
 use mathlib.Core.Path.{_≡_, refl, _∙_}
 use Prim.Native.Nat.{_-_, _<_, _≤_}
@@ -8,9 +9,6 @@ use Rattle.sound.specs.Buckets.{hashFrom}
 use Rattle.sound.proofs.Buckets.{hash-turn, hash-done}
 use Rattle.sound.proofs.apart.bucket.Statement.{statement}
 use Rattle.sound.proofs.apart.bucket.Tie as tie
-use Rattle.sound.proofs.apart.bucket.Reads as reads
-use Rattle.sound.proofs.apart.bucket.Lts as lts
-use Rattle.memory.proofs.numbers.wide.Reads as wide-reads
 
 abbrev Inv-loop : tie.InvT-loop
 Inv-loop name h₀ i₀ h i = (h < 65536) × (i ≤ length name) × (hashFrom h (drop i name) ≡ hashFrom 0 name)
@@ -18,35 +16,27 @@ Inv-loop name h₀ i₀ h i = (h < 65536) × (i ≤ length name) × (hashFrom h 
 abbrev μ-loop : tie.MeasureT-loop
 μ-loop name h₀ i₀ h i = length name - i
 
--- src/apart.rt:27:5
 loop-holds : tie.Need-loop-holds Inv-loop μ-loop
 loop-holds c = (omega arith, omega arith, refl)
 
--- src/apart.rt:28:14
 mul-h : tie.Need-mul-h Inv-loop μ-loop
 mul-h c = search needs
 
--- src/apart.rt:28:28
 shared-slice-read-wide : tie.Need-shared-slice-read-wide Inv-loop μ-loop
 shared-slice-read-wide c = search needs
 
--- src/apart.rt:28:23
 wide-requires : tie.Need-wide-requires Inv-loop μ-loop
 wide-requires c κs = search needs
 
--- src/apart.rt:28:14
 add-h : tie.Need-add-h Inv-loop μ-loop
 add-h c = search needs
 
--- src/apart.rt:29:9
 add-i : tie.Need-add-i Inv-loop μ-loop
 add-i c = search needs
 
--- src/apart.rt:27:5
 loop-less : tie.Need-loop-less Inv-loop μ-loop
 loop-less c = search needs
 
--- src/apart.rt:27:5
 loop-again : tie.Need-loop-again Inv-loop μ-loop
 loop-again c =
     let at-loop-test = c .before .before .loop-test in
@@ -54,7 +44,6 @@ loop-again c =
     let at-loop = c .before .before .before .loop in
     (mod-lt _ (omega arith), omega (arith, at-loop-test .taken), hash-turn _ _ _ _ _ (at-loop-test .taken) refl (at-wide .ensures .0) ∙ at-loop .inv .2)
 
--- src/apart.rt:22:1
 returns : tie.Need-returns Inv-loop μ-loop
 returns c =
     let at-loop-test = c .loop-test in

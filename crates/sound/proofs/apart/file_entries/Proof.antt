@@ -1,5 +1,6 @@
+-- `sound::apart::file_entries` keeps its promise.
 use borrow.Author.Needs.{needs}
-use mathlib.Core.Path.{_≡_, refl, sym, _∙_}
+use mathlib.Core.Path.{_≡_, refl, sym}
 use Prim.Native.Nat.{_-_}
 use native.Mathlib.Omega.{arith}
 use lib.ListN.{length}
@@ -10,9 +11,6 @@ use Rattle.sound.specs.Rooted.{bytesOf}
 use Rattle.sound.proofs.Differ.{Rest, rest-start, rest-end, rest-here, rest-met, rest-next}
 use Rattle.sound.proofs.apart.file_entries.Statement.{statement}
 use Rattle.sound.proofs.apart.file_entries.Tie as tie
-use Rattle.sound.proofs.apart.file_entries.Reads as reads
-use Rattle.sound.proofs.apart.file_entries.Lts as lts
-use Rattle.sound.proofs.apart.file_entry.Reads as file-entry-reads
 
 abbrev Inv-loop : tie.InvT-loop
 Inv-loop card s t heads₀ links₀ size at₀ i₀ heads links at i = (length heads ≡ length heads₀) × (length links ≡ length links₀) × (size ≡ length (bytesOf card s t)) × Filed (entries (bytesOf card s t)) i heads links × Rest (bytesOf card s t) at i
@@ -20,13 +18,11 @@ Inv-loop card s t heads₀ links₀ size at₀ i₀ heads links at i = (length h
 abbrev μ-loop : tie.MeasureT-loop
 μ-loop card s t heads₀ links₀ size at₀ i₀ heads links at i = size - at
 
--- src/apart.rt:88:5
 loop-holds : tie.Need-loop-holds Inv-loop μ-loop
 loop-holds c =
     let at-start = c .before .before .before in
     (refl, refl, sym (length-contents _ _ _ _ _), at-start .pre .2, rest-start _ (at-start .pre .1))
 
--- src/apart.rt:89:13
 file-entry-requires : tie.Need-file-entry-requires Inv-loop μ-loop
 file-entry-requires c κs =
     let at-start = c .before .before .before .before .before .before .before in
@@ -34,15 +30,12 @@ file-entry-requires c κs =
     let at-loop-test = c .before .before .loop-test in
     (at-start .pre .0, rest-here _ _ _ _ (at-loop .inv .2) (at-loop-test .taken) (at-loop .inv .4) (at-start .pre .1), at-loop .inv .3)
 
--- src/apart.rt:91:13
 same-length : tie.Need-same-length Inv-loop μ-loop
 same-length c = search needs
 
--- src/apart.rt:91:13
 same-length-2 : tie.Need-same-length-2 Inv-loop μ-loop
 same-length-2 c = search needs
 
--- src/apart.rt:91:13
 returns : tie.Need-returns Inv-loop μ-loop
 returns c =
     let at-loop = c .before .before .before .before .before .before .before .before .before .loop in
@@ -52,7 +45,6 @@ returns c =
     let at-if1 = c .if1 in
     rest-met _ _ _ _ (at-loop .inv .2) (at-loop-test .taken) (at-loop .inv .4) (at-start .pre .1) _ (at-file-entry .ensures .0) (at-if1 .taken)
 
--- src/apart.rt:93:14
 add-at : tie.Need-add-at Inv-loop μ-loop
 add-at c =
     let at-loop-test = c .before .before .before .before .before .before .before .before .loop-test in
@@ -60,7 +52,6 @@ add-at c =
     let at-start = c .before .before .before .before .before .before .before .before .before .before .before .before .before in
     omega (arith, at-loop-test .taken, at-loop .inv .2, at-start .pre .1 .low)
 
--- src/apart.rt:93:14
 add-at-2 : tie.Need-add-at-2 Inv-loop μ-loop
 add-at-2 c =
     let at-loop = c .before .before .before .before .before .before .before .before .before .loop in
@@ -70,7 +61,6 @@ add-at-2 c =
     let at-if1 = c .if1 in
     omega (arith, rest-next _ _ _ _ (at-loop .inv .2) (at-loop-test .taken) (at-loop .inv .4) (at-start .pre .1) _ (at-file-entry .ensures .0) (at-if1 .left) .inside, at-start .pre .1 .low)
 
--- src/apart.rt:94:9
 add-i : tie.Need-add-i Inv-loop μ-loop
 add-i c =
     let at-loop = c .before .before .before .before .before .before .before .before .before .loop in
@@ -78,13 +68,11 @@ add-i c =
     let at-start = c .before .before .before .before .before .before .before .before .before .before .before .before .before in
     omega (arith, rest-here _ _ _ _ (at-loop .inv .2) (at-loop-test .taken) (at-loop .inv .4) (at-start .pre .1) .few)
 
--- src/apart.rt:88:5
 loop-less : tie.Need-loop-less Inv-loop μ-loop
 loop-less c =
     let at-loop-test = c .before .before .before .before .before .before .before .before .loop-test in
     omega (arith, at-loop-test .taken)
 
--- src/apart.rt:88:5
 loop-again : tie.Need-loop-again Inv-loop μ-loop
 loop-again c =
     let at-loop = c .before .before .before .before .before .before .before .before .before .loop in
@@ -94,15 +82,12 @@ loop-again c =
     let at-start = c .before .before .before .before .before .before .before .before .before .before .before .before .before in
     (search needs, search needs, at-loop .inv .2, at-file-entry .ensures .1 (at-if1 .left), rest-next _ _ _ _ (at-loop .inv .2) (at-loop-test .taken) (at-loop .inv .4) (at-start .pre .1) _ (at-file-entry .ensures .0) (at-if1 .left))
 
--- src/apart.rt:81:1
 same-length-3 : tie.Need-same-length-3 Inv-loop μ-loop
 same-length-3 c = search needs
 
--- src/apart.rt:81:1
 same-length-4 : tie.Need-same-length-4 Inv-loop μ-loop
 same-length-4 c = search needs
 
--- src/apart.rt:81:1
 returns-2 : tie.Need-returns-2 Inv-loop μ-loop
 returns-2 c =
     let at-loop = c .before .loop in

@@ -1,6 +1,6 @@
+-- `sound::apart::met` keeps its promise.
 use borrow.Author.Needs.{needs}
-use borrow.Author.Tests.{not-true, not-false}
-use mathlib.Core.Path.{_≡_, refl, _∙_}
+use mathlib.Core.Path.{_≡_, refl}
 use mathlib.Core.Logic.{_≢_}
 use Prim.Native.Nat.{_≤_, _-_}
 use native.Mathlib.Omega.{arith}
@@ -10,11 +10,6 @@ use Rattle.sound.specs.Rooted.{bytesOf}
 use Rattle.sound.proofs.Buckets.{met-here, met-less, met-own, met-next, met-none, met-same}
 use Rattle.sound.proofs.apart.met.Statement.{statement}
 use Rattle.sound.proofs.apart.met.Tie as tie
-use Rattle.sound.proofs.apart.met.Reads as reads
-use Rattle.sound.proofs.apart.met.Lts as lts
-use Rattle.filing.proofs.entries.read_head.Reads as read-head-reads
-use Rattle.filing.proofs.names.name_is.Reads as name-is-reads
-use Rattle.memory.proofs.bytes.number.Reads as number-reads
 
 abbrev Inv-loop : tie.InvT-loop
 Inv-loop card s t links x name left₀ left = (left ≤ x) × (left ≢ 0 → bucketOf (nameAt (entries (bytesOf card s t)) (left - 1)) ≡ bucketOf name) × (among (entries (bytesOf card s t)) left name ≡ among (entries (bytesOf card s t)) x name)
@@ -22,42 +17,34 @@ Inv-loop card s t links x name left₀ left = (left ≤ x) × (left ≢ 0 → bu
 abbrev μ-loop : tie.MeasureT-loop
 μ-loop card s t links x name left₀ left = left
 
--- src/apart.rt:40:5
 loop-holds : tie.Need-loop-holds Inv-loop μ-loop
 loop-holds c =
     let at-start = c .before .before .before in
     (omega arith, at-start .pre .5, refl)
 
--- src/apart.rt:41:17
 sub-j : tie.Need-sub-j Inv-loop μ-loop
 sub-j c = search needs
 
--- src/apart.rt:42:34
 mul-number : tie.Need-mul-number Inv-loop μ-loop
 mul-number c =
     let at-loop = c .before .loop in
     let at-start = c .before .before .before .before .before in
     omega (arith, at-loop .inv .0, at-start .pre .2)
 
--- src/apart.rt:42:13
 number-requires : tie.Need-number-requires Inv-loop μ-loop
 number-requires c κs = search needs
 
--- src/apart.rt:43:17
 read-head-requires : tie.Need-read-head-requires Inv-loop μ-loop
 read-head-requires c κs = search needs
 
--- src/apart.rt:44:34
 add-name-is : tie.Need-add-name-is Inv-loop μ-loop
 add-name-is c =
     let at-number = c .before .number in
     omega (arith, at-number .ensures .1)
 
--- src/apart.rt:44:12
 name-is-requires : tie.Need-name-is-requires Inv-loop μ-loop
 name-is-requires c κs = search needs
 
--- src/apart.rt:45:13
 returns : tie.Need-returns Inv-loop μ-loop
 returns c =
     let at-loop-test = c .before .before .before .before .loop-test in
@@ -69,25 +56,21 @@ returns c =
     let at-if1 = c .if1 in
     met-here _ _ _ _ _ _ (at-loop-test .taken) (at-loop .inv .0) (at-start .pre .4) (at-loop .inv .1) (at-loop .inv .2) (met-same _ _ _ _ _ _ _ _ (at-loop-test .taken) (at-loop .inv .0) (at-start .pre .3) (at-start .pre .4) (at-number .ensures .0) (at-read-head .ensures .1) (at-name-is .ensures)) (at-if1 .taken)
 
--- src/apart.rt:47:32
 mul-number-2 : tie.Need-mul-number-2 Inv-loop μ-loop
 mul-number-2 c =
     let at-loop = c .before .before .before .before .before .loop in
     let at-start = c .before .before .before .before .before .before .before .before .before in
     omega (arith, at-loop .inv .0, at-start .pre .2)
 
--- src/apart.rt:47:32
 add-number : tie.Need-add-number Inv-loop μ-loop
 add-number c =
     let at-loop = c .before .before .before .before .before .loop in
     let at-start = c .before .before .before .before .before .before .before .before .before in
     omega (arith, at-loop .inv .0, at-start .pre .2)
 
--- src/apart.rt:47:9
 number-requires-2 : tie.Need-number-requires-2 Inv-loop μ-loop
 number-requires-2 c κs = search needs
 
--- src/apart.rt:40:5
 loop-less : tie.Need-loop-less Inv-loop μ-loop
 loop-less c =
     let at-loop-test = c .before .before .before .before .before .loop-test in
@@ -99,7 +82,6 @@ loop-less c =
     let at-number2 = c .number2 in
     met-less _ _ _ _ _ _ (at-loop-test .taken) (at-loop .inv .0) (at-start .pre .4) (at-loop .inv .1) (at-loop .inv .2) (met-same _ _ _ _ _ _ _ _ (at-loop-test .taken) (at-loop .inv .0) (at-start .pre .3) (at-start .pre .4) (at-number .ensures .0) (at-read-head .ensures .1) (at-name-is .ensures)) _ (at-number2 .ensures .0)
 
--- src/apart.rt:40:5
 loop-again : tie.Need-loop-again Inv-loop μ-loop
 loop-again c =
     let at-loop-test = c .before .before .before .before .before .loop-test in
@@ -114,7 +96,6 @@ loop-again c =
     let less = met-less _ _ _ _ _ _ (at-loop-test .taken) (at-loop .inv .0) (at-start .pre .4) (at-loop .inv .1) (at-loop .inv .2) e _ (at-number2 .ensures .0) in
     (omega (arith, less, at-loop .inv .0), met-own _ _ _ _ _ _ (at-loop-test .taken) (at-loop .inv .0) (at-start .pre .4) (at-loop .inv .1) (at-loop .inv .2) e _ (at-number2 .ensures .0), met-next _ _ _ _ _ _ (at-loop-test .taken) (at-loop .inv .0) (at-start .pre .4) (at-loop .inv .1) (at-loop .inv .2) e _ (at-number2 .ensures .0) (at-if1 .left))
 
--- src/apart.rt:35:1
 returns-2 : tie.Need-returns-2 Inv-loop μ-loop
 returns-2 c =
     let at-loop-test = c .loop-test in

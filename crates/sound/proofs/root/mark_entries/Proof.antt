@@ -1,6 +1,6 @@
+-- `sound::root::mark_entries` keeps its promise.
 use borrow.Author.Needs.{needs}
-use mathlib.Core.Path.{_≡_, refl, sym, _∙_}
-use mathlib.Core.Bool.{true, false}
+use mathlib.Core.Path.{_≡_, refl, sym}
 use Prim.Native.Nat.{_-_}
 use native.Mathlib.Omega.{arith}
 use lib.ListN.{length}
@@ -9,9 +9,6 @@ use Rattle.sound.specs.Rooted.{bytesOf}
 use Rattle.sound.proofs.Reached.{Left, left-start, left-end, left-stop, left-turn, not-both}
 use Rattle.sound.proofs.root.mark_entries.Statement.{statement}
 use Rattle.sound.proofs.root.mark_entries.Tie as tie
-use Rattle.sound.proofs.root.mark_entries.Reads as reads
-use Rattle.sound.proofs.root.mark_entries.Lts as lts
-use Rattle.sound.proofs.root.mark_entry.Reads as mark-entry-reads
 
 abbrev Inv-loop : tie.InvT-loop
 Inv-loop card s t n marks₀ size at₀ marks at = (length marks ≡ length marks₀) × (size ≡ length (bytesOf card s t)) × Left (bytesOf card s t) n marks₀ marks at
@@ -19,19 +16,15 @@ Inv-loop card s t n marks₀ size at₀ marks at = (length marks ≡ length mark
 abbrev μ-loop : tie.MeasureT-loop
 μ-loop card s t n marks₀ size at₀ marks at = size - at
 
--- src/root.rt:62:5
 loop-holds : tie.Need-loop-holds Inv-loop μ-loop
 loop-holds c = (refl, sym (length-contents _ _ _ _ _), left-start _ _ _)
 
--- src/root.rt:63:13
 mark-entry-requires : tie.Need-mark-entry-requires Inv-loop μ-loop
 mark-entry-requires c κs = search needs
 
--- src/root.rt:65:13
 same-length : tie.Need-same-length Inv-loop μ-loop
 same-length c = search needs
 
--- src/root.rt:65:13
 returns : tie.Need-returns Inv-loop μ-loop
 returns c =
     let at-loop = c .before .before .before .before .before .before .loop in
@@ -40,14 +33,12 @@ returns c =
     let at-if1 = c .if1 in
     (left-stop _ _ _ _ _ (at-loop .inv .2) _ (at-loop .inv .1) (at-loop-test .taken) _ (at-mark-entry .ensures .0) (at-if1 .taken), not-both)
 
--- src/root.rt:67:14
 add-at : tie.Need-add-at Inv-loop μ-loop
 add-at c =
     let at-loop-test = c .before .before .before .before .before .loop-test in
     let at-start = c .before .before .before .before .before .before .before .before .before in
     omega (arith, at-loop-test .taken, at-start .pre .1)
 
--- src/root.rt:67:14
 add-at-2 : tie.Need-add-at-2 Inv-loop μ-loop
 add-at-2 c =
     let at-loop = c .before .before .before .before .before .before .loop in
@@ -57,13 +48,11 @@ add-at-2 c =
     let at-start = c .before .before .before .before .before .before .before .before .before in
     omega (arith, left-turn _ _ _ _ _ (at-loop .inv .2) _ (at-loop .inv .1) (at-loop-test .taken) _ (at-mark-entry .ensures .0) _ (at-if1 .left) (at-mark-entry .ensures .1 (at-if1 .left)) .inside, at-loop .inv .1, at-start .pre .1)
 
--- src/root.rt:62:5
 loop-less : tie.Need-loop-less Inv-loop μ-loop
 loop-less c =
     let at-loop-test = c .before .before .before .before .before .loop-test in
     omega (arith, at-loop-test .taken)
 
--- src/root.rt:62:5
 loop-again : tie.Need-loop-again Inv-loop μ-loop
 loop-again c =
     let at-loop = c .before .before .before .before .before .before .loop in
@@ -72,11 +61,9 @@ loop-again c =
     let at-if1 = c .if1 in
     (search needs, at-loop .inv .1, left-turn _ _ _ _ _ (at-loop .inv .2) _ (at-loop .inv .1) (at-loop-test .taken) _ (at-mark-entry .ensures .0) _ (at-if1 .left) (at-mark-entry .ensures .1 (at-if1 .left)))
 
--- src/root.rt:56:1
 same-length-2 : tie.Need-same-length-2 Inv-loop μ-loop
 same-length-2 c = search needs
 
--- src/root.rt:56:1
 returns-2 : tie.Need-returns-2 Inv-loop μ-loop
 returns-2 c =
     let at-loop = c .before .loop in

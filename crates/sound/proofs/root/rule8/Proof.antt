@@ -1,42 +1,27 @@
+-- `sound::root::rule8` keeps its promise.
 use borrow.Author.Tests.{not-true, not-false}
-use mathlib.Core.Path.{_≡_, refl}
+use borrow.Author.Needs.{needs}
 use native.Mathlib.Omega.{arith}
 use Rattle.sound.proofs.Spares.{slots-few}
 use Rattle.sound.proofs.Reached.{root-low, root-short, zero-met, entries-wrong, root-tidy, marks-wrong, names-last}
-use borrow.Author.Needs.{needs}
 use Rattle.sound.proofs.root.rule8.Statement.{statement}
 use Rattle.sound.proofs.root.rule8.Tie as tie
-use Rattle.sound.proofs.root.rule8.Reads as reads
-use Rattle.sound.proofs.root.rule8.Lts as lts
-use Rattle.blocks.proofs.marks.mark.Reads as mark-reads
-use Rattle.memory.proofs.runs.clear.Reads as clear-reads
-use Rattle.sound.proofs.apart.names_apart.Reads as names-apart-reads
-use Rattle.sound.proofs.root.mark_entries.Reads as mark-entries-reads
-use Rattle.sound.proofs.spare.descriptors.Reads as descriptors-reads
-use Rattle.sound.proofs.spare.right_marks.Reads as right-marks-reads
-use Rattle.stream.proofs.descs.descriptor.Reads as descriptor-reads
 
--- src/root.rt:78:9
 descriptors-requires : tie.Need-descriptors-requires
 descriptors-requires c κs = search needs
 
--- src/root.rt:79:9
 descriptor-requires : tie.Need-descriptor-requires
 descriptor-requires c κs = search needs
 
--- src/root.rt:80:5
 clear-requires : tie.Need-clear-requires
 clear-requires c κs = search needs
 
--- src/root.rt:81:9
 mark-requires : tie.Need-mark-requires
 mark-requires c κs = search needs
 
--- src/root.rt:82:9
 same-length : tie.Need-same-length
 same-length c = search needs
 
--- src/root.rt:82:9
 returns : tie.Need-returns
 returns c =
     let at-start = c .before .before .before .before .before .before .before .before .before .before .before .before .before .before in
@@ -47,7 +32,6 @@ returns c =
     let at-if1 = c .if1 in
     zero-met _ _ _ _ _ (at-start .pre .1) (at-descriptors .ensures) (at-start .pre .3) (at-descriptor .ensures) _ _ _ (at-start .pre .4) (at-clear .ensures) _ (at-mark .ensures .0) (at-mark .ensures .1) (not-true _ (at-if1 .taken))
 
--- src/root.rt:84:9
 mark-entries-requires : tie.Need-mark-entries-requires
 mark-entries-requires c κs =
     let at-start = c .before .before .before .before .before .before .before .before .before .before .before .before .before .before .before in
@@ -55,11 +39,9 @@ mark-entries-requires c κs =
     let at-descriptor = c .before .before .before .before .before .before .before .before .before .before .descriptor in
     (at-start .pre .0, root-low _ _ _ _ _ (at-start .pre .1) (at-descriptors .ensures) (at-start .pre .3) (at-descriptor .ensures) (at-start .pre .0) (at-start .pre .2))
 
--- src/root.rt:85:9
 same-length-2 : tie.Need-same-length-2
 same-length-2 c = search needs
 
--- src/root.rt:85:9
 returns-2 : tie.Need-returns-2
 returns-2 c =
     let at-start = c .before .before .before .before .before .before .before .before .before .before .before .before .before .before .before .before .before .before .before in
@@ -72,18 +54,15 @@ returns-2 c =
     let at-if2 = c .if2 in
     entries-wrong _ _ _ _ _ (at-start .pre .1) (at-descriptors .ensures) (at-start .pre .3) (at-descriptor .ensures) _ _ _ (at-start .pre .4) (at-clear .ensures) _ (at-mark .ensures .0) (at-mark .ensures .1) (not-false _ (at-if1 .left)) _ _ (at-mark-entries .ensures .0) (at-mark-entries .ensures .1) (not-true _ (at-if2 .taken))
 
--- src/root.rt:87:9
 right-marks-requires : tie.Need-right-marks-requires
 right-marks-requires c κs =
     let at-start = c .before .before .before .before .before .before .before .before .before .before .before .before .before .before .before .before .before .before .before .before in
     let at-descriptors = c .before .before .before .before .before .before .before .before .before .before .before .before .before .before .before .before .descriptors in
     omega (arith, slots-few _ _ _ (at-start .pre .1) (at-descriptors .ensures))
 
--- src/root.rt:88:9
 same-length-3 : tie.Need-same-length-3
 same-length-3 c = search needs
 
--- src/root.rt:88:9
 returns-3 : tie.Need-returns-3
 returns-3 c =
     let at-start = c .before .before .before .before .before .before .before .before .before .before .before .before .before .before .before .before .before .before .before .before .before .before in
@@ -98,7 +77,6 @@ returns-3 c =
     let at-if3 = c .if3 in
     marks-wrong _ _ _ _ _ (at-start .pre .1) (at-descriptors .ensures) (at-start .pre .3) (at-descriptor .ensures) _ _ _ (at-start .pre .4) (at-clear .ensures) _ (at-mark .ensures .0) (at-mark .ensures .1) (not-false _ (at-if1 .left)) _ _ (at-mark-entries .ensures .0) (at-mark-entries .ensures .1) (not-false _ (at-if2 .left)) _ (at-right-marks .ensures) (not-true _ (at-if3 .taken))
 
--- src/root.rt:90:5
 names-apart-requires : tie.Need-names-apart-requires
 names-apart-requires c κs =
     let at-start = c .before .before .before .before .before .before .before .before .before .before .before .before .before .before .before .before .before .before .before .before .before .before in
@@ -108,15 +86,15 @@ names-apart-requires c κs =
     let at-mark = c .before .before .before .before .before .before .before .before .before .before .before .mark in
     let at-if1 = c .before .before .before .before .before .before .before .before .if1 in
     let at-mark-entries = c .before .before .before .before .before .before .mark-entries in
-    let at-if2 = c .before .before .before .if2 in
-    (at-start .pre .0, root-tidy _ _ _ _ _ (at-start .pre .1) (at-descriptors .ensures) (at-start .pre .3) (at-descriptor .ensures) _ _ _ (at-start .pre .4) (at-clear .ensures) _ (at-mark .ensures .0) (at-mark .ensures .1) (not-false _ (at-if1 .left)) _ _ (at-mark-entries .ensures .0) (at-mark-entries .ensures .1) (not-false _ (at-if2 .left))
-      (root-short _ _ _ _ _ (at-start .pre .1) (at-descriptors .ensures) (at-start .pre .3) (at-descriptor .ensures) (at-start .pre .0) (at-start .pre .2)))
+    let at-if2 = c .before .before .before .if2 in (
+      at-start .pre .0,
+      root-tidy _ _ _ _ _ (at-start .pre .1) (at-descriptors .ensures) (at-start .pre .3) (at-descriptor .ensures) _ _ _ (at-start .pre .4) (at-clear .ensures) _ (at-mark .ensures .0) (at-mark .ensures .1) (not-false _ (at-if1 .left)) _ _ (at-mark-entries .ensures .0) (at-mark-entries .ensures .1) (not-false _ (at-if2 .left))
+          (root-short _ _ _ _ _ (at-start .pre .1) (at-descriptors .ensures) (at-start .pre .3) (at-descriptor .ensures) (at-start .pre .0) (at-start .pre .2)),
+    )
 
--- src/root.rt:74:1
 same-length-4 : tie.Need-same-length-4
 same-length-4 c = search needs
 
--- src/root.rt:74:1
 returns-4 : tie.Need-returns-4
 returns-4 c =
     let at-start = c .before .before .before .before .before .before .before .before .before .before .before .before .before .before .before .before .before .before .before .before .before .before .before in

@@ -1,21 +1,15 @@
-use Rattle.sound.proofs.Spares.{slots-is}
+-- `sound::spare::descriptors` keeps its promise.
 use borrow.Author.Needs.{needs}
+use Rattle.sound.proofs.Spares.{slots-is}
 use Rattle.sound.proofs.spare.descriptors.Statement.{statement}
 use Rattle.sound.proofs.spare.descriptors.Tie as tie
-use Rattle.sound.proofs.spare.descriptors.Reads as reads
-use Rattle.sound.proofs.spare.descriptors.Lts as lts
-use Rattle.memory.proofs.numbers.minus.Reads as minus-reads
-use Rattle.stream.proofs.descs.table.Reads as table-reads
 
--- src/spare.rt:110:11
 table-requires : tie.Need-table-requires
 table-requires c κs = search needs
 
--- src/spare.rt:110:5
 minus-requires : tie.Need-minus-requires
 minus-requires c κs = search needs
 
--- src/spare.rt:106:1
 returns : tie.Need-returns
 returns c =
     let at-table = c .before .table in

@@ -1,27 +1,21 @@
-use Rattle.sound.proofs.Spares.{asked-live, asked-free}
+-- `sound::spare::is_asked` keeps its promise.
 use borrow.Author.Needs.{needs}
+use Rattle.sound.proofs.Spares.{asked-live, asked-free}
 use Rattle.sound.proofs.spare.is_asked.Statement.{statement}
 use Rattle.sound.proofs.spare.is_asked.Tie as tie
-use Rattle.sound.proofs.spare.is_asked.Reads as reads
-use Rattle.sound.proofs.spare.is_asked.Lts as lts
-use Rattle.sound.proofs.spare.is_free.Reads as is-free-reads
 
--- src/spare.rt:72:17
 is-free-requires : tie.Need-is-free-requires
 is-free-requires c κs = search needs
 
--- src/spare.rt:72:9
 returns : tie.Need-returns
 returns c =
     let at-if1 = c .before .if1 in
     let at-is-free = c .is-free in
     asked-live _ _ _ _ (at-if1 .taken) (at-is-free .ensures)
 
--- src/spare.rt:74:5
 is-free-requires-2 : tie.Need-is-free-requires-2
 is-free-requires-2 c κs = search needs
 
--- src/spare.rt:67:1
 returns-2 : tie.Need-returns-2
 returns-2 c =
     let at-if1 = c .before .if1 in

@@ -1,8 +1,8 @@
+-- `sound::spare::mark_spares` keeps its promise.
 use borrow.Author.Needs.{needs}
 use borrow.Author.Tests.{not-true, not-false}
 use mathlib.Core.Path.{_≡_, refl}
 use mathlib.Core.List.{map}
-use native.Mathlib.Omega.{arith}
 use lib.ListN.{length}
 use Rattle.layout.specs.Bytes.{num}
 use Rattle.layout.specs.Blocks.{walk}
@@ -11,11 +11,6 @@ use Rattle.sound.specs.Compared.{numberAt, spares}
 use Rattle.sound.proofs.Spares.{spares-begun, spares-end, spares-out, spares-turn, spares-stop}
 use Rattle.sound.proofs.spare.mark_spares.Statement.{statement}
 use Rattle.sound.proofs.spare.mark_spares.Tie as tie
-use Rattle.sound.proofs.spare.mark_spares.Reads as reads
-use Rattle.sound.proofs.spare.mark_spares.Lts as lts
-use Rattle.blocks.proofs.marks.mark.Reads as mark-reads
-use Rattle.memory.proofs.bytes.number.Reads as number-reads
-use Rattle.sound.proofs.spare.number_at.Reads as number-at-reads
 
 abbrev Inv-loop : tie.InvT-loop
 Inv-loop tab n marks₀ x₀ left₀ marks x left = (length marks ≡ length marks₀) × Rest n marks (map numberAt (walk left (num 8 tab) x)) marks₀ (spares tab n)
@@ -23,44 +18,35 @@ Inv-loop tab n marks₀ x₀ left₀ marks x left = (length marks ≡ length mar
 abbrev μ-loop : tie.MeasureT-loop
 μ-loop tab n marks₀ x₀ left₀ marks x left = left
 
--- src/spare.rt:43:9
 number-requires : tie.Need-number-requires Inv-loop μ-loop
 number-requires c κs = search needs
 
--- src/spare.rt:44:20
 add-left : tie.Need-add-left Inv-loop μ-loop
 add-left c = search needs
 
--- src/spare.rt:45:5
 loop-holds : tie.Need-loop-holds Inv-loop μ-loop
 loop-holds c =
     let at-number = c .number in
     (refl, spares-begun _ _ _ _ (at-number .ensures .0))
 
--- src/spare.rt:47:13
 same-length : tie.Need-same-length Inv-loop μ-loop
 same-length c = search needs
 
--- src/spare.rt:47:13
 returns : tie.Need-returns Inv-loop μ-loop
 returns c =
     let at-loop = c .before .before .loop in
     let at-if1 = c .if1 in
     spares-end _ _ _ _ _ _ _ (at-loop .inv .1) (at-if1 .taken)
 
--- src/spare.rt:49:28
 number-at-requires : tie.Need-number-at-requires Inv-loop μ-loop
 number-at-requires c κs = search needs
 
--- src/spare.rt:49:13
 mark-requires : tie.Need-mark-requires Inv-loop μ-loop
 mark-requires c κs = search needs
 
--- src/spare.rt:50:13
 same-length-2 : tie.Need-same-length-2 Inv-loop μ-loop
 same-length-2 c = search needs
 
--- src/spare.rt:50:13
 returns-2 : tie.Need-returns-2 Inv-loop μ-loop
 returns-2 c =
     let at-loop = c .before .before .before .before .before .before .before .before .loop in
@@ -71,19 +57,15 @@ returns-2 c =
     let at-if2 = c .if2 in
     spares-stop _ _ _ _ _ _ _ (at-loop .inv .1) (at-loop-test .taken) (at-if1 .left) _ _ _ (at-number-at .ensures) (at-mark .ensures .0) (at-mark .ensures .1) (not-true _ (at-if2 .taken))
 
--- src/spare.rt:52:9
 number-requires-2 : tie.Need-number-requires-2 Inv-loop μ-loop
 number-requires-2 c κs = search needs
 
--- src/spare.rt:53:9
 sub-left : tie.Need-sub-left Inv-loop μ-loop
 sub-left c = search needs
 
--- src/spare.rt:45:5
 loop-less : tie.Need-loop-less Inv-loop μ-loop
 loop-less c = search needs
 
--- src/spare.rt:45:5
 loop-again : tie.Need-loop-again Inv-loop μ-loop
 loop-again c =
     let at-loop = c .before .before .before .before .before .before .before .before .before .loop in
@@ -95,11 +77,9 @@ loop-again c =
     let at-if2 = c .before .if2 in
     (search needs, spares-turn _ _ _ _ _ _ _ (at-loop .inv .1) (at-loop-test .taken) (at-if1 .left) _ _ _ (at-number-at .ensures) (at-mark .ensures .0) (at-mark .ensures .1) _ (at-number2 .ensures .0) (not-false _ (at-if2 .left)))
 
--- src/spare.rt:39:1
 same-length-3 : tie.Need-same-length-3 Inv-loop μ-loop
 same-length-3 c = search needs
 
--- src/spare.rt:39:1
 returns-3 : tie.Need-returns-3 Inv-loop μ-loop
 returns-3 c =
     let at-loop = c .before .loop in

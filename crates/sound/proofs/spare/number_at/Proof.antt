@@ -1,24 +1,19 @@
-use borrow.Author.Needs.{needs}
+-- `sound::spare::number_at` keeps its promise.
 use Rattle.sound.proofs.Spares.{at-low, at-part, at-whole}
 use Rattle.sound.proofs.spare.number_at.Statement.{statement}
 use Rattle.sound.proofs.spare.number_at.Tie as tie
-use Rattle.sound.proofs.spare.number_at.Reads as reads
-use Rattle.sound.proofs.spare.number_at.Lts as lts
 
--- src/spare.rt:30:9
 returns : tie.Need-returns
 returns c =
     let at-if1 = c .if1 in
     at-low _ (at-if1 .taken)
 
--- src/spare.rt:33:9
 returns-2 : tie.Need-returns-2
 returns-2 c =
     let at-if1 = c .before .if1 in
     let at-if2 = c .if2 in
     at-part _ (at-if1 .left) (at-if2 .taken)
 
--- src/spare.rt:26:1
 returns-3 : tie.Need-returns-3
 returns-3 c =
     let at-if1 = c .before .if1 in

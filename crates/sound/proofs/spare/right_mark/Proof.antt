@@ -1,21 +1,15 @@
-use Rattle.sound.proofs.Spares.{mark-none, mark-some}
+-- `sound::spare::right_mark` keeps its promise.
 use borrow.Author.Needs.{needs}
+use Rattle.sound.proofs.Spares.{mark-none, mark-some}
 use Rattle.sound.proofs.spare.right_mark.Statement.{statement}
 use Rattle.sound.proofs.spare.right_mark.Tie as tie
-use Rattle.sound.proofs.spare.right_mark.Reads as reads
-use Rattle.sound.proofs.spare.right_mark.Lts as lts
-use Rattle.memory.proofs.bytes.byte.Reads as byte-reads
-use Rattle.sound.proofs.spare.is_asked.Reads as is-asked-reads
 
--- src/spare.rt:82:8
 byte-requires : tie.Need-byte-requires
 byte-requires c κs = search needs
 
--- src/spare.rt:83:17
 is-asked-requires : tie.Need-is-asked-requires
 is-asked-requires c κs = search needs
 
--- src/spare.rt:83:9
 returns : tie.Need-returns
 returns c =
     let at-byte = c .before .before .byte in
@@ -23,11 +17,9 @@ returns c =
     let at-if1 = c .before .if1 in
     mark-none _ _ _ _ _ (at-byte .ensures) (at-is-asked .ensures) (at-if1 .taken)
 
--- src/spare.rt:85:5
 is-asked-requires-2 : tie.Need-is-asked-requires-2
 is-asked-requires-2 c κs = search needs
 
--- src/spare.rt:78:1
 returns-2 : tie.Need-returns-2
 returns-2 c =
     let at-byte = c .before .before .byte in

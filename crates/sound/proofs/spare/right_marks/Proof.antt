@@ -1,3 +1,4 @@
+-- `sound::spare::right_marks` keeps its promise.
 use borrow.Author.Needs.{needs}
 use borrow.Author.Tests.{not-true, not-false}
 use mathlib.Core.Path.{_≡_, refl, _∙_}
@@ -8,9 +9,6 @@ use Rattle.sound.specs.Compared.{rightMark, asked}
 use Rattle.sound.proofs.Spares.{all-stop, all-turn, all-done}
 use Rattle.sound.proofs.spare.right_marks.Statement.{statement}
 use Rattle.sound.proofs.spare.right_marks.Tie as tie
-use Rattle.sound.proofs.spare.right_marks.Reads as reads
-use Rattle.sound.proofs.spare.right_marks.Lts as lts
-use Rattle.sound.proofs.spare.right_mark.Reads as right-mark-reads
 
 abbrev Inv-loop : tie.InvT-loop
 Inv-loop tab alive n marks k₀ left₀ k left = (k + left ≡ n) × (allB (rightMark marks (asked tab alive)) (run k left) ≡ allB (rightMark marks (asked tab alive)) (run 0 n))
@@ -18,18 +16,15 @@ Inv-loop tab alive n marks k₀ left₀ k left = (k + left ≡ n) × (allB (righ
 abbrev μ-loop : tie.MeasureT-loop
 μ-loop tab alive n marks k₀ left₀ k left = left
 
--- src/spare.rt:95:5
 loop-holds : tie.Need-loop-holds Inv-loop μ-loop
 loop-holds c = (omega arith, refl)
 
--- src/spare.rt:96:13
 right-mark-requires : tie.Need-right-mark-requires Inv-loop μ-loop
 right-mark-requires c κs =
     let at-loop = c .before .loop in
     let at-start = c .before .before .before .before in
     omega (arith, at-loop .inv .0, at-start .pre)
 
--- src/spare.rt:97:13
 returns : tie.Need-returns Inv-loop μ-loop
 returns c =
     let at-loop-test = c .before .before .loop-test in
@@ -38,19 +33,15 @@ returns c =
     let at-loop = c .before .before .before .loop in
     all-stop _ _ _ _ (at-loop-test .taken) (at-right-mark .ensures) (not-true _ (at-if1 .taken)) ∙ at-loop .inv .1
 
--- src/spare.rt:99:9
 add-k : tie.Need-add-k Inv-loop μ-loop
 add-k c = search needs
 
--- src/spare.rt:100:9
 sub-left : tie.Need-sub-left Inv-loop μ-loop
 sub-left c = search needs
 
--- src/spare.rt:95:5
 loop-less : tie.Need-loop-less Inv-loop μ-loop
 loop-less c = search needs
 
--- src/spare.rt:95:5
 loop-again : tie.Need-loop-again Inv-loop μ-loop
 loop-again c =
     let at-loop = c .before .before .before .loop in
@@ -59,7 +50,6 @@ loop-again c =
     let at-if1 = c .if1 in
     (omega (arith, at-loop .inv .0), all-turn _ _ _ _ (at-loop-test .taken) (at-right-mark .ensures) (not-false _ (at-if1 .left)) ∙ at-loop .inv .1)
 
--- src/spare.rt:89:1
 returns-2 : tie.Need-returns-2 Inv-loop μ-loop
 returns-2 c =
     let at-loop-test = c .loop-test in

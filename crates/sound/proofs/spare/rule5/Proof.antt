@@ -1,45 +1,29 @@
+-- `sound::spare::rule5` keeps its promise.
 use borrow.Author.Tests.{not-true, not-false}
-use mathlib.Core.Path.{refl}
+use borrow.Author.Needs.{needs}
 use native.Mathlib.Omega.{arith}
 use Rattle.sound.proofs.Spares.{slots-few, page-reads, form-wrong, chain-wrong, set-wrong, root-last}
-use borrow.Author.Needs.{needs}
 use Rattle.sound.proofs.spare.rule5.Statement.{statement}
 use Rattle.sound.proofs.spare.rule5.Tie as tie
-use Rattle.sound.proofs.spare.rule5.Reads as reads
-use Rattle.sound.proofs.spare.rule5.Lts as lts
-use Rattle.memory.proofs.runs.clear.Reads as clear-reads
-use Rattle.sound.proofs.forms.good_forms.Reads as good-forms-reads
-use Rattle.sound.proofs.spare.descriptors.Reads as descriptors-reads
-use Rattle.sound.proofs.spare.is_free.Reads as is-free-reads
-use Rattle.sound.proofs.spare.mark_spares.Reads as mark-spares-reads
-use Rattle.sound.proofs.spare.right_marks.Reads as right-marks-reads
-use Rattle.stream.proofs.descs.table.Reads as table-reads
-use Rattle.stream.proofs.gather.gather_stream.Reads as gather-stream-reads
 
--- src/spare.rt:119:9
 descriptors-requires : tie.Need-descriptors-requires
 descriptors-requires c κs = search needs
 
--- src/spare.rt:120:28
 table-requires : tie.Need-table-requires
 table-requires c κs = search needs
 
--- src/spare.rt:120:5
 gather-stream-requires : tie.Need-gather-stream-requires
 gather-stream-requires c κs = search needs
 
--- src/spare.rt:121:9
 good-forms-requires : tie.Need-good-forms-requires
 good-forms-requires c κs =
     let at-start = c .before .before .before .before .before .before .before .before .before .before in
     let at-descriptors = c .before .before .before .before .before .before .descriptors in
     (at-start .pre .0 .least, omega (arith, slots-few _ _ _ (at-start .pre .1) (at-descriptors .ensures)))
 
--- src/spare.rt:122:9
 same-length : tie.Need-same-length
 same-length c = search needs
 
--- src/spare.rt:122:9
 returns : tie.Need-returns
 returns c =
     let at-start = c .before .before .before .before .before .before .before .before .before .before .before .before in
@@ -52,26 +36,21 @@ returns c =
     let same = page-reads _ _ _ _ _ (at-start .pre .1) (at-table .ensures) (at-start .pre .2) (at-gather-stream .ensures) in
     (form-wrong _ _ _ _ (at-descriptors .ensures) few same _ (at-good-forms .ensures) (not-true _ (at-if1 .taken)), same)
 
--- src/spare.rt:124:5
 clear-requires : tie.Need-clear-requires
 clear-requires c κs = search needs
 
--- src/spare.rt:125:9
 mark-spares-requires : tie.Need-mark-spares-requires
 mark-spares-requires c κs =
     let at-start = c .before .before .before .before .before .before .before .before .before .before .before .before .before .before .before .before .before .before in
     let at-descriptors = c .before .before .before .before .before .before .before .before .before .before .before .before .before .before .descriptors in
     omega (arith, slots-few _ _ _ (at-start .pre .1) (at-descriptors .ensures))
 
--- src/spare.rt:126:9
 same-length-2 : tie.Need-same-length-2
 same-length-2 c = search needs
 
--- src/spare.rt:126:9
 same-length-3 : tie.Need-same-length-3
 same-length-3 c = search needs
 
--- src/spare.rt:126:9
 returns-2 : tie.Need-returns-2
 returns-2 c =
     let at-start = c .before .before .before .before .before .before .before .before .before .before .before .before .before .before .before .before .before .before .before .before .before .before in
@@ -87,22 +66,18 @@ returns-2 c =
     let same = page-reads _ _ _ _ _ (at-start .pre .1) (at-table .ensures) (at-start .pre .2) (at-gather-stream .ensures) in
     (chain-wrong _ _ _ _ (at-descriptors .ensures) few same _ (at-good-forms .ensures) (not-false _ (at-if1 .left)) _ _ _ _ (omega (arith, few, at-start .pre .3)) (at-clear .ensures) (at-mark-spares .ensures) (not-true _ (at-if2 .taken)), same)
 
--- src/spare.rt:128:9
 right-marks-requires : tie.Need-right-marks-requires
 right-marks-requires c κs =
     let at-start = c .before .before .before .before .before .before .before .before .before .before .before .before .before .before .before .before .before .before .before .before .before .before .before .before in
     let at-descriptors = c .before .before .before .before .before .before .before .before .before .before .before .before .before .before .before .before .before .before .before .before .descriptors in
     omega (arith, slots-few _ _ _ (at-start .pre .1) (at-descriptors .ensures))
 
--- src/spare.rt:129:9
 same-length-4 : tie.Need-same-length-4
 same-length-4 c = search needs
 
--- src/spare.rt:129:9
 same-length-5 : tie.Need-same-length-5
 same-length-5 c = search needs
 
--- src/spare.rt:129:9
 returns-3 : tie.Need-returns-3
 returns-3 c =
     let at-start = c .before .before .before .before .before .before .before .before .before .before .before .before .before .before .before .before .before .before .before .before .before .before .before .before .before .before in
@@ -120,19 +95,15 @@ returns-3 c =
     let same = page-reads _ _ _ _ _ (at-start .pre .1) (at-table .ensures) (at-start .pre .2) (at-gather-stream .ensures) in
     (set-wrong _ _ _ _ (at-descriptors .ensures) few same _ (at-good-forms .ensures) (not-false _ (at-if1 .left)) _ _ _ _ (omega (arith, few, at-start .pre .3)) (at-clear .ensures) (at-mark-spares .ensures) (not-false _ (at-if2 .left)) _ (at-right-marks .ensures) (not-true _ (at-if3 .taken)), same)
 
--- src/spare.rt:131:6
 is-free-requires : tie.Need-is-free-requires
 is-free-requires c κs = search needs
 
--- src/spare.rt:115:1
 same-length-6 : tie.Need-same-length-6
 same-length-6 c = search needs
 
--- src/spare.rt:115:1
 same-length-7 : tie.Need-same-length-7
 same-length-7 c = search needs
 
--- src/spare.rt:115:1
 returns-4 : tie.Need-returns-4
 returns-4 c =
     let at-start = c .before .before .before .before .before .before .before .before .before .before .before .before .before .before .before .before .before .before .before .before .before .before .before .before .before .before .before .before in
