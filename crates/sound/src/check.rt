@@ -18,7 +18,7 @@ ghost use Rattle.layout.specs.Ranges.{Small};
 ghost use Rattle.sound.specs.OnPage.{brokenIn};
 
 // The lowest broken one of rules 4 to 8; 0 where there is none. The page and the marks are lent for the work.
-pub fn check_shaped(card: &[u8], s: Shape, tab: &mut [u8], marks: &mut [u8]) -> usize
+fn check_shaped(card: &[u8], s: Shape, tab: &mut [u8], marks: &mut [u8]) -> usize
     requires { ⌜ Small (now card) s × (now tab ≡ replicate 6408 0) × (mostBlocks ≤ length (now marks)) ⌝ }
     ensures { λ r. ⌜ r ≡ brokenIn (now (card .entry)) s ⌝ }
 {
@@ -40,20 +40,29 @@ pub fn check_shaped(card: &[u8], s: Shape, tab: &mut [u8], marks: &mut [u8]) -> 
     0
 }
 
+// The lowest broken rule; 0 where there is none. The page and the marks are lent for the work.
+pub fn check_on(card: &[u8], tab: &mut [u8], marks: &mut [u8]) -> usize
+    requires { ⌜ (now tab ≡ replicate 6408 0) × (mostBlocks ≤ length (now marks)) ⌝ }
+    ensures { λ r. ⌜ r ≡ broken (now (card .entry)) ⌝ }
+{
+    if !rule1(&*card) {
+        return 1;
+    }
+    if !rule2(&*card) {
+        return 2;
+    }
+    if !rule3(&*card) {
+        return 3;
+    }
+    let s = shape(&*card);
+    check_shaped(&*card, s, tab, marks)
+}
+
 // The lowest broken rule; 0 where there is none.
 pub fn check(card: &[u8]) -> usize
     ensures { λ r. ⌜ r ≡ broken (now (card .entry)) ⌝ }
 {
-    if !rule1(card) {
-        return 1;
-    }
-    if !rule2(card) {
-        return 2;
-    }
-    if !rule3(card) {
-        return 3;
-    }
     let mut tab = [0; 6408];
     let mut marks = [0; 4096];
-    check_shaped(card, shape(card), &mut tab, &mut marks)
+    check_on(card, &mut tab, &mut marks)
 }

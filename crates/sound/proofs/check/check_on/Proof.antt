@@ -1,11 +1,10 @@
--- `sound::check::check` keeps its promise.
+-- `sound::check::check_on` keeps its promise.
 use borrow.Author.Tests.{not-true, not-false}
 use borrow.Author.Needs.{needs}
-use mathlib.Core.Path.{refl, sym, _∙_}
-use native.Mathlib.Omega.{arith}
+use mathlib.Core.Path.{sym, _∙_}
 use Rattle.sound.proofs.Lowest.{breaks-1, breaks-2, breaks-3, breaks-later, shift-low, small-shape}
-use Rattle.sound.proofs.check.check.Statement.{statement}
-use Rattle.sound.proofs.check.check.Tie as tie
+use Rattle.sound.proofs.check.check_on.Statement.{statement}
+use Rattle.sound.proofs.check.check_on.Tie as tie
 
 rule1-requires : tie.Need-rule1-requires
 rule1-requires c κs = search needs
@@ -46,33 +45,34 @@ shape-requires c κs =
     let at-if3 = c .if3 in
     shift-low _ (sym (at-rule3 .ensures) ∙ not-false _ (at-if3 .left))
 
-slice-aggregate-check-shaped : tie.Need-slice-aggregate-check-shaped
-slice-aggregate-check-shaped c = search needs
-
-slice-aggregate-check-shaped-2 : tie.Need-slice-aggregate-check-shaped-2
-slice-aggregate-check-shaped-2 c = search needs
-
 check-shaped-requires : tie.Need-check-shaped-requires
 check-shaped-requires c κs =
     let at-rule3 = c .before .before .before .before .rule3 in
     let at-if3 = c .before .before .before .if3 in
     let at-shape = c .before .before .shape in
-    (small-shape _ (sym (at-rule3 .ensures) ∙ not-false _ (at-if3 .left)) _ (at-shape .ensures), refl, omega arith)
+    let at-start = c .before .before .before .before .before .before .before .before .before .before .before .before in
+    (small-shape _ (sym (at-rule3 .ensures) ∙ not-false _ (at-if3 .left)) _ (at-shape .ensures), at-start .pre .0, at-start .pre .1)
+
+same-length : tie.Need-same-length
+same-length c = search needs
+
+same-length-2 : tie.Need-same-length-2
+same-length-2 c = search needs
 
 returns-4 : tie.Need-returns-4
 returns-4 c =
-    let at-rule1 = c .before .before .before .before .before .before .before .before .before .before .before .rule1 in
-    let at-if1 = c .before .before .before .before .before .before .before .before .before .before .if1 in
-    let at-rule2 = c .before .before .before .before .before .before .before .before .before .rule2 in
-    let at-if2 = c .before .before .before .before .before .before .before .before .if2 in
-    let at-rule3 = c .before .before .before .before .before .before .before .rule3 in
-    let at-if3 = c .before .before .before .before .before .before .if3 in
-    let at-shape = c .before .before .before .before .before .shape in
-    let at-check-shaped = c .before .before .check-shaped in
+    let at-rule1 = c .before .before .before .before .before .before .before .before .before .before .before .before .before .rule1 in
+    let at-if1 = c .before .before .before .before .before .before .before .before .before .before .before .before .if1 in
+    let at-rule2 = c .before .before .before .before .before .before .before .before .before .before .before .rule2 in
+    let at-if2 = c .before .before .before .before .before .before .before .before .before .before .if2 in
+    let at-rule3 = c .before .before .before .before .before .before .before .before .before .rule3 in
+    let at-if3 = c .before .before .before .before .before .before .before .before .if3 in
+    let at-shape = c .before .before .before .before .before .before .before .shape in
+    let at-check-shaped = c .before .before .before .before .check-shaped in
     breaks-later _ (sym (at-rule1 .ensures) ∙ not-false _ (at-if1 .left)) (sym (at-rule2 .ensures) ∙ not-false _ (at-if2 .left)) (sym (at-rule3 .ensures) ∙ not-false _ (at-if3 .left)) _ _ (at-shape .ensures) (at-check-shaped .ensures)
 
-pub check-spec : {M : Type 1} → statement M
-check-spec =
+pub check-on-spec : {M : Type 1} → statement M
+check-on-spec =
     tie.close
     (tie.spec
     rule1-requires
@@ -82,7 +82,7 @@ check-spec =
     rule3-requires
     returns-3
     shape-requires
-    slice-aggregate-check-shaped
-    slice-aggregate-check-shaped-2
     check-shaped-requires
+    same-length
+    same-length-2
     returns-4)
