@@ -1,3 +1,5 @@
+pub mod Call
 pub mod Plain
 pub mod Shows
 pub mod Runs
+pub mod Store
