@@ -23,3 +23,5 @@ pub mod NewCard
 pub mod Formats
 pub mod Peak
 pub mod History
+pub mod Exactly
+pub mod Meets2
