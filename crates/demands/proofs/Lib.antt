@@ -25,3 +25,6 @@ pub mod Peak
 pub mod History
 pub mod Exactly
 pub mod Meets2
+pub mod Once
+pub mod Streamwise
+pub mod Keeping
