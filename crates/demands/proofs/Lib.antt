@@ -28,3 +28,4 @@ pub mod Meets2
 pub mod Once
 pub mod Streamwise
 pub mod Keeping
+pub mod Pulling
