@@ -27,5 +27,7 @@ pub mod Exactly
 pub mod Meets2
 pub mod Once
 pub mod Streamwise
+pub mod Directorywise
 pub mod Keeping
 pub mod Pulling
+pub mod Meets3
