@@ -19,7 +19,7 @@ use Rattle.demands.specs.Demand2.{Demand2}
 use Rattle.demands.specs.Demand3.{Demand3}
 use Rattle.demands.proofs.Formats.{format-done}
 use Rattle.wrong.specs.Cards.{a, b, empty, made, filled, oneStream, twoBytes}
-use Rattle.wrong.specs.Stores.{refusing, constant, idle, tiring, boasting, freeForgetting, forgetting}
+use Rattle.wrong.specs.Stores.{refusing, constant, idle, tiring, fullTray, boasting, freeForgetting, forgetting}
 use Rattle.wrong.specs.Tests.{rightCount}
 use Rattle.wrong.proofs.Known.{small, small-sound, small-plain}
 use Rattle.wrong.proofs.Asked.{count-asked, count-asked-later}
@@ -74,8 +74,8 @@ pub boasting-fails : Demand2 boasting → ⊥
 unfolding does firstNo same holds spliced climb P goodName usedBy freeOf lookUp edited plainRead plainWrite plainCreate plainCall plainAfter
 boasting-fails d =
     let k : Call = reads a 2 (0 ∷ 0 ∷ []) in
-    let told : 2 ≡ plainCall (plain twoBytes) k .count = d .plays 0 twoBytes (small-sound filled) k .answers .count in
-    let least : plainCall (plain twoBytes) k .count ≡ 0 = ap (λ (p : Plain). plainCall p k .count) (small-plain filled) ∙ refl in
+    let told : fullTray (plain twoBytes) a 2 (0 ∷ 0 ∷ []) ≡ plainCall (plain twoBytes) k .count = d .plays 0 twoBytes (small-sound filled) k .answers .count in
+    let least : fullTray (plainAfter (plainNew 6 4) filled) a 2 (0 ∷ 0 ∷ []) ≡ 0 = rw (small-plain filled) at told in
     omega arith
 
 -- ---- an invented free count: demands 2 and 3, by P's formula

@@ -71,7 +71,11 @@ telling o n = record { number = o .number; rule = o .rule; count = n; size = o .
 abbrev pub leaving : Outcome → List ℕ → Outcome
 leaving o c = record { number = o .number; rule = o .rule; count = o .count; size = o .size; length = o .length; card = c; tray = o .tray }
 
--- its read always tells the tray's length: an invented read count
+-- the count of a read that fills the tray, whatever there is to read
+abbrev pub fullTray : Plain → List ℕ → ℕ → List ℕ → ℕ
+fullTray p name at tray = length tray
+
+-- its read always tells that: an invented read count
 abbrev pub boasting : Store
 boasting = record {
   format = ours .format;
@@ -79,7 +83,7 @@ boasting = record {
   room = ours .room;
   create = ours .create;
   write = ours .write;
-  read = λ n c name p tray. telling (ours .read n c name p tray) (length tray);
+  read = λ n c name p tray. telling (ours .read n c name p tray) (fullTray (plain c) name p tray);
   truncate = ours .truncate;
   delete = ours .delete;
   size = ours .size;

@@ -4,10 +4,8 @@ use mathlib.Core.Bool.{Bool}
 use Prim.Native.Nat.{ℕ, _+_}
 use mathlib.Core.List.{List}
 use lib.ListN.{length}
-use lib.Dec.{leb, eqb}
+use lib.Dec.{eqb}
 use Rattle.layout.specs.Bytes.{same}
-use Rattle.layout.specs.Blocks.{rising}
-use Rattle.layout.specs.Header.{shapeOf}
 use Rattle.demands.specs.Plain.{Plain, needs, sum, rootSize, tableSize, blockSize}
 use Rattle.demands.specs.Demand3.{blocksOf, allBlocks, times}
 
