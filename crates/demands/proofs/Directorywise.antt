@@ -1,9 +1,9 @@
 -- A stream made or taken away by its name, as create and delete do it: the other streams, and the bytes that may change.
 use mathlib.Core.Path.{_≡_, sym, ap, ap₂, _∙_}
 use mathlib.Core.Logic.{_≢_, inl, inr}
-use mathlib.Core.List.{List, _++_}
+use mathlib.Core.List.{List}
 use Prim.Native.Nat.{ℕ}
-use lib.ListN.{length, take, drop, take-append-drop}
+use lib.ListN.{take, drop, take-append-drop}
 use lib.Dec.{T}
 use Rattle.layout.specs.Blocks.{chain}
 use Rattle.layout.specs.Streams.{streamBytes, tableBlocks, streamBlocks}
@@ -22,9 +22,10 @@ use Rattle.layout.specs.declared.Shape.{Shape}
 -- the first m blocks of the chain, where the rest is the chain then
 pub first-taken : (c c′ : List ℕ) (m : ℕ) → Distinct (chain c (shapeOf c)) → chain c′ (shapeOf c′) ≡ drop m (chain c (shapeOf c)) → (b : ℕ) → In b (take m (chain c (shapeOf c))) → Taken c c′ b
 first-taken c c′ m d e b i =
-    let ch = chain c (shapeOf c) in
-    (holds-in b ch (rw (take-append-drop m ch) at (in-left b (take m ch) (drop m ch) i)),
-     λ h. distinct-apart (take m ch) (drop m ch) (rw (take-append-drop m ch) d) b i (rw e at (holds-read b (chain c′ (shapeOf c′)) h)))
+    let ch = chain c (shapeOf c) in (
+      holds-in b ch (rw (take-append-drop m ch) at (in-left b (take m ch) (drop m ch) i)),
+      λ h. distinct-apart (take m ch) (drop m ch) (rw (take-append-drop m ch) d) b i (rw e at (holds-read b (chain c′ (shapeOf c′)) h)),
+    )
 
 module _ (c c′ n : List ℕ) (shape : shapeOf c′ ≡ shapeOf c) (index : indexOf c′ n ≡ indexOf c n) where
   same-stream : streamBlocks c′ (shapeOf c) (indexOf c n) ≡ streamBlocks c (shapeOf c) (indexOf c n) → streamBytes c′ (shapeOf c) (indexOf c n) ≡ streamBytes c (shapeOf c) (indexOf c n) → SameStream c c′ n

@@ -1,9 +1,8 @@
 -- Truncation, block by block: a block that the stream keeps has every byte that it had, and a freed one all but its first 4.
-use mathlib.Core.Path.{_≡_, sym, ap, ap₂, _∙_, subst}
+use mathlib.Core.Path.{_≡_, ap, ap₂, subst}
 use mathlib.Core.List.{List}
-use Prim.Native.Nat.{ℕ, _+_, _≤_, _<_}
+use Prim.Native.Nat.{ℕ, _+_, _≤_}
 use native.Mathlib.Omega.{arith}
-use lib.ListN.{length, getD}
 use Rattle.layout.specs.Blocks.{place, chain}
 use Rattle.layout.specs.Streams.{tableBytes, tableBlocks, streamBlocks}
 use Rattle.layout.specs.Filing.{Entry}
@@ -18,7 +17,7 @@ use Rattle.laws.proofs.Lives.{lives-in}
 use Rattle.laws.proofs.State.{livesOf, Core}
 use Rattle.laws.proofs.Cores.{core-good}
 use Rattle.laws.proofs.Edits.{NotDesc, beyond-desc}
-use Rattle.demands.specs.Demand3.{Within, Among, Freed, blocksOf, SameByte, Cut}
+use Rattle.demands.specs.Demand3.{blocksOf, SameByte, Cut}
 use Rattle.demands.proofs.Items.{found}
 use Rattle.demands.proofs.Named.{found-live}
 use Rattle.demands.proofs.Ownership.{Owned, owned}

@@ -28,6 +28,7 @@ pub mod Meets2
 pub mod Once
 pub mod Streamwise
 pub mod Directorywise
+pub mod Deciding
 pub mod Keeping
 pub mod Pulling
 pub mod Meets3

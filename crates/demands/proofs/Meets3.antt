@@ -1,29 +1,27 @@
 -- The definitions of the layout meet demand 3.
-use mathlib.Core.Path.{_≡_, refl, sym, ap, _∙_}
+use mathlib.Core.Path.{_≡_, refl, ap, _∙_}
 use mathlib.Core.Bool.{Bool, true, false}
 use mathlib.Core.List.{List}
-use Prim.Native.Nat.{ℕ, suc, _+_}
-use native.Mathlib.Decide.{ℕ-discrete}
+use Prim.Native.Nat.{ℕ, suc}
 use native.Mathlib.Omega.{arith}
 use lib.ListN.{length}
-use lib.Dec.{T, eqb}
+use lib.Dec.{T}
 use Rattle.layout.specs.Blocks.{chain}
 use Rattle.layout.specs.Streams.{stream}
-use Rattle.layout.specs.Header.{shaped, shapeOf, goodShape}
+use Rattle.layout.specs.Header.{shaped, goodShape}
 use Rattle.layout.specs.Sound.{broken}
-use Rattle.layout.specs.Calls.{indexOf, formatted, format, check, room, size, read, list, write, truncate, create, delete}
-use Rattle.laws.proofs.Lists.{In, length-run}
-use Rattle.laws.proofs.State.{Whole}
+use Rattle.layout.specs.Calls.{indexOf, format, room, write, truncate, create, delete}
+use Rattle.laws.proofs.Lists.{length-run}
 use Rattle.laws.proofs.Soundness.{sound, whole}
 use Rattle.demands.specs.Call.{Call, checks, rooms, sizes, reads, lists, writes, truncates, creates, deletes}
 use Rattle.demands.specs.Plain.{plainRoom, plainCall, plainNew}
 use Rattle.demands.specs.Runs.{plainAfter, peak}
 use Rattle.demands.specs.Shows.{plain}
 use Rattle.demands.specs.Store.{does, runs, ours}
-use Rattle.demands.specs.Demand3.{Listed, Concerns, SameStream, Closely, Leaves, NewCard, Counts, Demand3}
+use Rattle.demands.specs.Demand3.{Closely, Leaves, NewCard, Counts, Demand3}
 use Rattle.demands.proofs.Values.{check-values, room-values, size-values, read-values, list-values}
-use Rattle.demands.proofs.Writes.{Wrote, writeWants, write-done}
-use Rattle.demands.proofs.Truncates.{Truncated, truncate-done}
+use Rattle.demands.proofs.Writes.{writeWants, write-done}
+use Rattle.demands.proofs.Truncates.{truncate-done}
 use Rattle.demands.proofs.Creates.{create-done}
 use Rattle.demands.proofs.Deletes.{delete-done}
 use Rattle.demands.proofs.Formats.{new-sound, new-plain, new-chain, new-shape, format-done, format-refused}
@@ -32,6 +30,7 @@ use Rattle.demands.proofs.History.{call-refines, run-free, run-table, r
 use Rattle.demands.proofs.Once.{every-once}
 use Rattle.demands.proofs.Streamwise.{others-same, parts-only, directory-kept}
 use Rattle.demands.proofs.Directorywise.{first-taken, created-others, created-parts, deleted-others, deleted-parts}
+use Rattle.demands.proofs.Deciding.{stream-differs, directory-differs}
 use Rattle.demands.proofs.Keeping.{cut}
 use Rattle.demands.proofs.Pulling.{pulled}
 use Rattle.layout.specs.declared.Shape.{Shape}
@@ -48,7 +47,7 @@ module _ (n : ℕ) (c : List ℕ) (e : broken c ≡ 0) where
         owned = every-once c (sound c e);
         others = λ name t u. record { index = refl; blocks = refl; bytes = refl };
         long = refl;
-        parts = λ i h. refl;
+        parts = λ i h. absurd (h refl);
         closely = close;
       })
 
@@ -67,7 +66,7 @@ module _ (n : ℕ) (c : List ℕ) (e : broken c ≡ 0) where
         owned = every-once c′ (t .after);
         others = others-same c (t .before) name (t .known) c′ _ _ _ (t .edit) (t .root-of);
         long = t .edit .long;
-        parts = parts-only c (t .before) name (t .known) c′ _ _ _ (t .edit) (t .root-of) (first-taken c c′ m (t .before .core .parts .room .apart) chain-is);
+        parts = stream-differs c name c′ (parts-only c (t .before) name (t .known) c′ _ _ _ (t .edit) (t .root-of) (first-taken c c′ m (t .before .core .parts .room .apart) chain-is));
         closely = directory-kept c (t .before) name (t .known) c′ _ _ _ (t .edit) (t .root-of) (t .table-kept);
       }
 
@@ -82,7 +81,7 @@ module _ (n : ℕ) (c : List ℕ) (e : broken c ≡ 0) where
         owned = every-once c′ (t .after);
         others = others-same c (t .before) name (t .known) c′ _ _ _ (t .edit) (t .root-of);
         long = t .edit .long;
-        parts = parts-only c (t .before) name (t .known) c′ _ _ _ (t .edit) (t .root-of) (λ b i. absurd i);
+        parts = stream-differs c name c′ (parts-only c (t .before) name (t .known) c′ _ _ _ (t .edit) (t .root-of) (λ b i. absurd i));
         closely = (directory-kept c (t .before) name (t .known) c′ _ _ _ (t .edit) (t .root-of) (t .table-kept), cut c name m c′ t);
       }
 
@@ -97,7 +96,7 @@ module _ (n : ℕ) (c : List ℕ) (e : broken c ≡ 0) where
         owned = every-once c′ (t .after);
         others = λ n h u. created-others c name c′ t n h;
         long = t .long;
-        parts = created-parts c name c′ t;
+        parts = directory-differs c name c′ (created-parts c name c′ t);
         closely = tt;
       }
 
@@ -112,7 +111,7 @@ module _ (n : ℕ) (c : List ℕ) (e : broken c ≡ 0) where
         owned = every-once c′ (t .after);
         others = deleted-others c name c′ t;
         long = t .long;
-        parts = deleted-parts c name c′ t;
+        parts = directory-differs c name c′ (deleted-parts c name c′ t);
         closely = pulled c name c′ t;
       }
 

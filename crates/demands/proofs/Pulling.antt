@@ -1,28 +1,28 @@
 -- Deletion, block by block: a block that the directory keeps has every byte that it had but those of the directory's bytes, and a freed
 -- block all but its first 4.
-use mathlib.Core.Path.{_≡_, refl, sym, ap, _∙_, subst}
+use mathlib.Core.Path.{_≡_, sym, ap, _∙_, subst}
 use mathlib.Core.Logic.{_≢_, inl, inr}
 use mathlib.Core.List.{List, [], _++_}
 use Prim.Native.Nat.{ℕ, _+_, _/_, _≤_, _<_}
 use native.Mathlib.Nat.{div-lt-iff-lt-mul}
 use native.Mathlib.Omega.{arith}
-use lib.ListN.{length, getD}
+use lib.ListN.{length}
 use Rattle.layout.specs.Pyramid.{level}
 use Rattle.layout.specs.Blocks.{place, chain, node, rising}
 use Rattle.layout.specs.Streams.{dataOf, tall, stream, streamBytes, tableBlocks, streamBlocks}
-use Rattle.layout.specs.Filing.{lookIn, withoutEntry}
+use Rattle.layout.specs.Filing.{withoutEntry}
 use Rattle.layout.specs.Header.{shapeOf}
-use Rattle.layout.specs.Calls.{rootOf, entryOf, indexOf}
+use Rattle.layout.specs.Calls.{entryOf, indexOf}
 use Rattle.laws.proofs.Lists.{In, in-left, in-either, holds-in, holds-read}
 use Rattle.laws.proofs.Frame.{Inside, in-pyramid}
 use Rattle.laws.proofs.Chain.{Good, one-block}
-use Rattle.laws.proofs.Hanging.{Beyond, two, block-field, beyond}
+use Rattle.laws.proofs.Hanging.{two, block-field, beyond}
 use Rattle.laws.proofs.GiveBack.{NotLink, in-rising, rising-in}
 use Rattle.laws.proofs.Laying.{spot-inside}
 use Rattle.laws.proofs.State.{livesOf, Core, right-fits, length-stream}
 use Rattle.laws.proofs.Cores.{core-good, owner-stream}
 use Rattle.laws.proofs.Moves.{stream-right}
-use Rattle.demands.specs.Demand3.{SameByte, RootByte, Pulled}
+use Rattle.demands.specs.Demand3.{SameByte, Pulled}
 use Rattle.demands.proofs.Named.{root-live, found-live, not-root}
 use Rattle.demands.proofs.Ownership.{Owned, owned}
 use Rattle.demands.proofs.Spares.{streamSpot, surplusOf, spare}

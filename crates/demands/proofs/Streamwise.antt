@@ -7,7 +7,6 @@ use native.Mathlib.Decide.{decLt}
 use native.Mathlib.Omega.{arith}
 use lib.ListN.{length, getD, length-map, List·getD-eq-default}
 use lib.Dec.{T, ltb→lt}
-use Rattle.layout.specs.Blocks.{chain}
 use Rattle.layout.specs.Streams.{table, tableBytes, offset, streamBytes, tableBlocks, streamBlocks}
 use Rattle.layout.specs.Filing.{Entry, entriesOf, lookIn, nothing}
 use Rattle.layout.specs.Header.{shapeOf}

@@ -1,7 +1,7 @@
 -- Demand 3, of any store: what the card is after an accepted call, read afresh from its bytes alone, and after any run from a newly
 -- formatted card.
 use mathlib.Core.Path.{_≡_}
-use mathlib.Core.Logic.{_≢_, _⊎_}
+use mathlib.Core.Logic.{_⊎_}
 use Prim.Native.Nat.{ℕ, suc, _+_, _≤_, _<_}
 use mathlib.Core.List.{List, [], _∷_, _++_}
 use lib.ListN.{length, getD}
@@ -176,9 +176,9 @@ pub record Leaves (c : List ℕ) (k : Call) (c′ : List ℕ) : Type 0 where
   pub owned : (b : ℕ) → b < shapeOf c′ .count → times b (allBlocks c′) ≡ 1
   -- every other stream has the same blocks, in the same order, with the same bytes, under the same index
   pub others : (name : List ℕ) → T (knows (plain c) name) → (Concerns k name → ⊥) → SameStream c c′ name
-  -- only the parts listed for the call have changed
+  -- only the parts listed for the call have changed: where a byte differs, it lies in one of them
   pub long : length c′ ≡ length c
-  pub parts : (i : ℕ) → (Listed c k c′ i → ⊥) → SameByte c c′ i
+  pub parts : (i : ℕ) → (SameByte c c′ i → ⊥) → Listed c k c′ i
   pub closely : Closely c k c′
 
 -- ---- format, and runs from a newly formatted card

@@ -1,7 +1,7 @@
 -- The tests are what the demands ask: a store that meets them passes each test, whatever the card.
-use mathlib.Core.Path.{_≡_, sym, ap, _∙_}
+use mathlib.Core.Path.{_≡_}
 use mathlib.Core.List.{List}
-use Prim.Native.Nat.{ℕ, suc, _+_, _<_}
+use Prim.Native.Nat.{ℕ, _+_, _<_}
 use native.Mathlib.Omega.{arith}
 use lib.ListN.{length}
 use lib.Dec.{T}
@@ -12,7 +12,7 @@ use Rattle.laws.proofs.Tests.{is-same, is-eqb}
 use Rattle.laws.proofs.Soundness.{sound}
 use Rattle.demands.specs.Call.{Call, rooms}
 use Rattle.demands.specs.Plain.{Plain, knows, usedBy, freeOf, plainRoom, plainCall, plainNew}
-use Rattle.demands.specs.Runs.{plainAfter, peak}
+use Rattle.demands.specs.Runs.{plainAfter}
 use Rattle.demands.specs.Shows.{plain}
 use Rattle.demands.specs.Store.{Store, does, runs, ours}
 use Rattle.demands.specs.Demand2.{Demand2}

@@ -1,4 +1,4 @@
--- What two wrong stores make of a card, computed byte by byte as the cases of the layout are.
+-- What two wrong stores make of a card, computed byte by byte, as the cases of the layout are.
 use mathlib.Core.Path.{_≡_, refl}
 use mathlib.Core.List.{[], _∷_}
 use lib.ListN.{replicate}

@@ -1,13 +1,12 @@
 -- What is known of the cards: they pass their check, and show the plain lists that the runs leave.
 use mathlib.Core.Path.{_≡_}
 use mathlib.Core.List.{List}
-use Prim.Native.Nat.{ℕ}
 use lib.Dec.{T}
-use Rattle.layout.specs.Header.{shaped, goodShape}
+use Rattle.layout.specs.Header.{goodShape}
 use Rattle.layout.specs.Sound.{broken}
 use Rattle.layout.specs.Calls.{formatted}
 use Rattle.demands.specs.Call.{Call}
-use Rattle.demands.specs.Plain.{Plain, plainNew}
+use Rattle.demands.specs.Plain.{plainNew}
 use Rattle.demands.specs.Runs.{plainAfter}
 use Rattle.demands.specs.Shows.{plain}
 use Rattle.demands.specs.Store.{runs, ours}

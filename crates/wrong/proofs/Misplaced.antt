@@ -10,10 +10,9 @@ use Rattle.layout.specs.Bytes.{same, holds, spliced}
 use Rattle.layout.specs.Pyramid.{climb, P}
 use Rattle.layout.specs.Filing.{goodName}
 use Rattle.layout.specs.Calls.{firstNo}
-use Rattle.demands.specs.Call.{Call, writes}
+use Rattle.demands.specs.Call.{writes}
 use Rattle.demands.specs.Plain.{Plain, knows, usedBy, freeOf, lookUp, edited, plainNew, plainWrite, plainCreate, plainCall}
 use Rattle.demands.specs.Runs.{plainAfter}
-use Rattle.demands.specs.Shows.{plain}
 use Rattle.demands.specs.Store.{does, ours}
 use Rattle.demands.specs.Demand3.{Demand3}
 use Rattle.demands.proofs.History.{call-refines}

@@ -8,13 +8,13 @@ use lib.Dec.{T}
 use Rattle.layout.specs.Bytes.{same, holds, spliced}
 use Rattle.layout.specs.Pyramid.{climb, P}
 use Rattle.layout.specs.Filing.{goodName}
-use Rattle.layout.specs.Answers.{Outcome, done}
-use Rattle.layout.specs.Calls.{firstNo, formatted}
-use Rattle.demands.specs.Call.{Call, checks, rooms, reads, creates}
+use Rattle.layout.specs.Answers.{Outcome}
+use Rattle.layout.specs.Calls.{firstNo}
+use Rattle.demands.specs.Call.{Call, checks, reads, creates}
 use Rattle.demands.specs.Plain.{Plain, usedBy, freeOf, lookUp, edited, plainNew, plainRead, plainWrite, plainCreate, plainCall}
 use Rattle.demands.specs.Runs.{plainAfter}
 use Rattle.demands.specs.Shows.{plain}
-use Rattle.demands.specs.Store.{does, runs, ours}
+use Rattle.demands.specs.Store.{does, runs}
 use Rattle.demands.specs.Demand2.{Demand2}
 use Rattle.demands.specs.Demand3.{Demand3}
 use Rattle.demands.proofs.Formats.{format-done}
