@@ -1,11 +1,15 @@
 -- Of situations with rising numbers, the first that is there is the lowest, and the other way round.
 use mathlib.Core.Path.{_≡_, refl, sym, _∙_}
 use mathlib.Core.Logic.{inl, inr, _↔_}
-use mathlib.Core.Bool.{true, false}
-use mathlib.Core.List.{List, [], _∷_}
+use mathlib.Core.Bool.{Bool, true, false}
+use mathlib.Core.List.{List, [], _∷_, _++_}
 use Prim.Native.Nat.{ℕ, _≤_, _<_}
+use native.Mathlib.Decide.{ℕ-discrete}
 use native.Mathlib.Omega.{arith}
+use lib.Dec.{T, eqb}
+use Rattle.layout.specs.Bytes.{pick}
 use Rattle.layout.specs.Calls.{Test, firstNo}
+use Rattle.laws.proofs.Picks.{eqb-yes, eqb-no}
 use Rattle.demands.specs.Demand2.{Given, Lowest}
 
 -- each number is above the one before, the first above n
@@ -46,3 +50,28 @@ lowest-first n ((false, i) ∷ more) r m (inr g) low = lowest-first i more (r .1
 -- a number that is the first's is given exactly where it is the lowest
 pub exactly : (tests : List Test) → Rising 0 tests → (x : ℕ) → x ≡ firstNo tests → (m : ℕ) → 1 ≤ m → (x ≡ m) ↔ Lowest tests m
 exactly tests r x e m o = (λ u. first-lowest 0 tests r m o (sym e ∙ u), λ l. e ∙ lowest-first 0 tests r m (l .0) (l .1))
+
+-- ---- a number that few situations have
+
+-- no situation has the number n
+abbrev pub absent : ℕ → List Test → Bool
+absent n [] = true
+absent n ((b, m) ∷ more) = pick (eqb m n) false (absent n more)
+
+pub never-given : (n : ℕ) (tests : List Test) → T (absent n tests) → Given tests n → ⊥
+never-given n [] t g = g
+never-given n ((b, m) ∷ more) t (inl g) = rw (eqb-yes (g .1)) at t
+never-given n ((b, m) ∷ more) t (inr g) = elim (ℕ-discrete m n) [
+  | yes e ↦ rw (eqb-yes e) at t
+  | no u ↦ never-given n more (rw (eqb-no u) at t) g
+]
+
+-- the last alone has it
+pub last-given : (n : ℕ) (tests : List Test) (b : Bool) → T (absent n tests) → Given (tests ++ ((b, n) ∷ [])) n → T b
+last-given n [] b t (inl g) = g .0
+last-given n [] b t (inr g) = absurd g
+last-given n ((a, m) ∷ more) b t (inl g) = absurd (rw (eqb-yes (g .1)) at t)
+last-given n ((a, m) ∷ more) b t (inr g) = elim (ℕ-discrete m n) [
+  | yes e ↦ absurd (rw (eqb-yes e) at t)
+  | no u ↦ last-given n more b (rw (eqb-no u) at t) g
+]

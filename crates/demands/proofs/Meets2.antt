@@ -1,12 +1,12 @@
 -- The definitions of the layout meet demand 2.
 use mathlib.Core.Path.{_≡_, refl, _∙_}
-use mathlib.Core.Logic.{_≢_, inl, inr}
+use mathlib.Core.Logic.{_≢_}
 use mathlib.Core.Bool.{Bool, true, false}
 use mathlib.Core.List.{List, [], _∷_}
 use Prim.Native.Nat.{ℕ, _<_}
 use native.Mathlib.Omega.{arith}
 use lib.ListN.{length}
-use lib.Dec.{ltb→lt}
+use lib.Dec.{ltb, ltb→lt}
 use Rattle.layout.specs.Bytes.{pick}
 use Rattle.layout.specs.Header.{goodShape}
 use Rattle.layout.specs.Sound.{broken}
@@ -14,12 +14,12 @@ use Rattle.layout.specs.Answers.{Outcome, refused}
 use Rattle.layout.specs.Calls.{Test, firstNo, unless, damaged, format, check, room, size, read, list, write, truncate, create, delete}
 use Rattle.laws.proofs.Picks.{eqb-no}
 use Rattle.demands.specs.Call.{Call, checks, rooms, sizes, reads, lists, writes, truncates, creates, deletes}
-use Rattle.demands.specs.Plain.{Plain, freeOf, blocksFor, situations, plainCheck, plainRoom, plainSize, plainRead, plainList, plainWrite, plainTruncate, plainCreate, plainDelete, plainCall}
+use Rattle.demands.specs.Plain.{Plain, freeOf, badName, notKnown, alreadyKnown, pastTheEnd, streamsFull, blocksFor, situations, plainCheck, plainRoom, plainSize, plainRead, plainList, plainWrite, plainTruncate, plainCreate, plainDelete, plainCall}
 use Rattle.demands.specs.Shows.{plain}
 use Rattle.demands.specs.Store.{does, ours}
 use Rattle.demands.specs.Demand2.{Given, Plays, Demand2}
 use Rattle.demands.proofs.Numbers.{plain-number-is}
-use Rattle.demands.proofs.Exactly.{Rising, exactly}
+use Rattle.demands.proofs.Exactly.{Rising, exactly, never-given, last-given}
 use Rattle.demands.proofs.History.{call-refines}
 
 -- ---- the situations of a plain call
@@ -52,33 +52,13 @@ plain-number p (deletes name) = plain-number-is (situations p (deletes name)) p 
 too-many : (p : Plain) (k : Call) → Given (situations p k) 7 → freeOf p < blocksFor p k
 too-many p checks g = absurd g
 too-many p rooms g = absurd g
-too-many p (sizes name) (inl g) = absurd (omega (arith, g .1))
-too-many p (sizes name) (inr (inl g)) = absurd (omega (arith, g .1))
-too-many p (sizes name) (inr (inr g)) = absurd g
-too-many p (reads name at tray) (inl g) = absurd (omega (arith, g .1))
-too-many p (reads name at tray) (inr (inl g)) = absurd (omega (arith, g .1))
-too-many p (reads name at tray) (inr (inr (inl g))) = absurd (omega (arith, g .1))
-too-many p (reads name at tray) (inr (inr (inr g))) = absurd g
-too-many p (lists k tray) (inl g) = absurd (omega (arith, g .1))
-too-many p (lists k tray) (inr (inl g)) = absurd (omega (arith, g .1))
-too-many p (lists k tray) (inr (inr g)) = absurd g
-too-many p (writes name at vs) (inl g) = absurd (omega (arith, g .1))
-too-many p (writes name at vs) (inr (inl g)) = absurd (omega (arith, g .1))
-too-many p (writes name at vs) (inr (inr (inl g))) = absurd (omega (arith, g .1))
-too-many p (writes name at vs) (inr (inr (inr (inl g)))) = ltb→lt _ _ (g .0)
-too-many p (writes name at vs) (inr (inr (inr (inr g)))) = absurd g
-too-many p (truncates name n) (inl g) = absurd (omega (arith, g .1))
-too-many p (truncates name n) (inr (inl g)) = absurd (omega (arith, g .1))
-too-many p (truncates name n) (inr (inr (inl g))) = absurd (omega (arith, g .1))
-too-many p (truncates name n) (inr (inr (inr g))) = absurd g
-too-many p (creates name) (inl g) = absurd (omega (arith, g .1))
-too-many p (creates name) (inr (inl g)) = absurd (omega (arith, g .1))
-too-many p (creates name) (inr (inr (inl g))) = absurd (omega (arith, g .1))
-too-many p (creates name) (inr (inr (inr (inl g)))) = ltb→lt _ _ (g .0)
-too-many p (creates name) (inr (inr (inr (inr g)))) = absurd g
-too-many p (deletes name) (inl g) = absurd (omega (arith, g .1))
-too-many p (deletes name) (inr (inl g)) = absurd (omega (arith, g .1))
-too-many p (deletes name) (inr (inr g)) = absurd g
+too-many p (sizes name) g = absurd (never-given 7 (situations p (sizes name)) tt g)
+too-many p (reads name at tray) g = absurd (never-given 7 (situations p (reads name at tray)) tt g)
+too-many p (lists k tray) g = absurd (never-given 7 (situations p (lists k tray)) tt g)
+too-many p (writes name at vs) g = ltb→lt _ _ (last-given 7 (badName name ∷ notKnown p name ∷ pastTheEnd p name at ∷ []) (ltb (freeOf p) (blocksFor p (writes name at vs))) tt g)
+too-many p (truncates name n) g = absurd (never-given 7 (situations p (truncates name n)) tt g)
+too-many p (creates name) g = ltb→lt _ _ (last-given 7 (badName name ∷ alreadyKnown p name ∷ streamsFull p ∷ []) (ltb (freeOf p) (blocksFor p (creates name))) tt g)
+too-many p (deletes name) g = absurd (never-given 7 (situations p (deletes name)) tt g)
 
 -- ---- on a card that passes its check
 

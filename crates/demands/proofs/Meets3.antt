@@ -26,7 +26,7 @@ use Rattle.demands.proofs.Creates.{create-done}
 use Rattle.demands.proofs.Deletes.{delete-done}
 use Rattle.demands.proofs.Formats.{new-sound, new-plain, new-chain, new-shape, format-done, format-refused}
 use Rattle.demands.proofs.NewCard.{new-length, suits}
-use Rattle.demands.proofs.History.{call-refines, run-free, run-table, run-refines}
+use Rattle.demands.proofs.History.{call-refines, run-sound, run-plain, run-free, run-table, run-refines}
 use Rattle.demands.proofs.Once.{every-once}
 use Rattle.demands.proofs.Streamwise.{others-same, parts-only, directory-kept}
 use Rattle.demands.proofs.Directorywise.{first-taken, created-others, created-parts, deleted-others, deleted-parts}
@@ -155,6 +155,8 @@ module _ (c : List ℕ) (shift : ℕ) (z : format c shift .number ≡ 0) where
       Counts left (room left .count) (plainAfter new ks) (peak new ks)
   unfolding does plainCall plainRoom
   counts n ks = rw (format-done c shift suited) (record {
+    passes = run-sound len shift suited n ks;
+    shows = run-plain len shift suited n ks;
     free = run-free len shift suited n ks;
     free-told = run-refines len shift suited n ks 0 rooms .answers .count;
     table-long = run-table len shift suited n ks;

@@ -193,6 +193,8 @@ pub record NewCard (len shift : ℕ) (c : List ℕ) : Type 0 where
 -- the card c that a run leaves, the free blocks that the store then tells, and the list p that the plain calls leave: nothing on the
 -- right is read from the card
 pub record Counts (c : List ℕ) (told : ℕ) (p : Plain) (most : ℕ) : Type 0 where
+  pub passes : broken c ≡ 0
+  pub shows : plain c ≡ p
   -- the free blocks number the card's blocks less what the layout needs for the lengths that are left
   pub free : length (chainOf c) ≡ freeOf p
   pub free-told : told ≡ freeOf p

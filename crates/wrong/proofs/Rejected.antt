@@ -93,4 +93,4 @@ unfolding does runs
 forgetting-fails-later d =
     let blank : List ℕ = replicate 343 0 in
     let f = format-done blank 6 small in
-    forgot (rw (f, small-plain made) at (count-asked-later forgetting d blank 6 small (rw f refl) made))
+    forgot (rw (f, small-plain made) at (count-asked-later forgetting d blank 6 (rw f refl) made))
