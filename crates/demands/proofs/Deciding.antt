@@ -12,7 +12,9 @@ use Rattle.layout.specs.Streams.{offset}
 use Rattle.layout.specs.Header.{shapeOf}
 use Rattle.layout.specs.Calls.{indexOf}
 use Rattle.laws.proofs.Lists.{In, in-run, run-in, holds-in, holds-read}
-use Rattle.demands.specs.Demand3.{tableOf, rootOf, blocksOf, chainOf, Within, InBlocks, Among, Taken, TableByte, InDescriptor, StreamParts, DirectoryParts, SameByte}
+use Rattle.demands.specs.Owners.{blocksOfTable, blocksOfRoot, blocksOf, freeChain}
+use Rattle.demands.specs.Parts.{Within, InBlocks, Among, Taken, TableByte, InDescriptor, StreamParts, DirectoryParts}
+use Rattle.demands.specs.Demand3.{SameByte}
 use Rattle.layout.specs.declared.Shape.{Shape}
 
 -- ---- what can be told
@@ -65,8 +67,8 @@ in-blocks s bs i = map-dec (λ p. (p .0, holds-in (p .0) bs (p .1), p .2)) (λ p
 in-taken : (c c′ : List ℕ) (i : ℕ) → Dec (InBlocks (shapeOf c) (Taken c c′) i)
 in-taken c c′ i =
     let s = shapeOf c in
-    map-dec (λ p. (p .0, (holds-in (p .0) (chainOf c) (p .1), p .2 .0), p .2 .1)) (λ p. (p .0, holds-read (p .0) (chainOf c) (p .1 .0), (p .1 .1, p .2)))
-    (some (λ b. (Among (chainOf c′) b → ⊥) × Within (place s b) (s .size) i) (λ b. both (never (test (holds b (chainOf c′)))) (within (place s b) (s .size) i)) (chainOf c))
+    map-dec (λ p. (p .0, (holds-in (p .0) (freeChain c) (p .1), p .2 .0), p .2 .1)) (λ p. (p .0, holds-read (p .0) (freeChain c) (p .1 .0), (p .1 .1, p .2)))
+    (some (λ b. (Among (freeChain c′) b → ⊥) × Within (place s b) (s .size) i) (λ b. both (never (test (holds b (freeChain c′)))) (within (place s b) (s .size) i)) (freeChain c))
 
 in-descriptor : (c name : List ℕ) (i : ℕ) → Dec (InDescriptor c name i)
 in-descriptor c name i =
@@ -82,8 +84,8 @@ stream-parts c name c′ i =
 directory-parts : (c name c′ : List ℕ) (i : ℕ) → Dec (DirectoryParts c name c′ i)
 directory-parts c name c′ i =
     let s = shapeOf c in
-    either (within (s .first) 8 i) (either (within (s .table) 25 i) (either (in-blocks s (tableOf c) i)
-    (either (in-blocks s (rootOf c) i) (either (in-blocks s (blocksOf c name) i) (in-taken c c′ i)))))
+    either (within (s .first) 8 i) (either (within (s .table) 25 i) (either (in-blocks s (blocksOfTable c) i)
+    (either (in-blocks s (blocksOfRoot c) i) (either (in-blocks s (blocksOf c name) i) (in-taken c c′ i)))))
 
 -- ---- from bytes outside to bytes that differ
 

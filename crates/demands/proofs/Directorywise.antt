@@ -12,7 +12,8 @@ use Rattle.layout.specs.Calls.{indexOf, createWants}
 use Rattle.laws.proofs.Lists.{In, Distinct, in-left, distinct-apart, holds-in, holds-read}
 use Rattle.demands.specs.Plain.{knows}
 use Rattle.demands.specs.Shows.{plain}
-use Rattle.demands.specs.Demand3.{Taken, DirectoryParts, SameByte, SameStream}
+use Rattle.demands.specs.Parts.{Taken, DirectoryParts}
+use Rattle.demands.specs.Demand3.{SameByte, SameStream}
 use Rattle.demands.proofs.Named.{found-live, not-root}
 use Rattle.demands.proofs.Streamwise.{known-in, index-apart}
 use Rattle.demands.proofs.Creates.{Created}

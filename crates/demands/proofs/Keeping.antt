@@ -17,7 +17,8 @@ use Rattle.laws.proofs.Lives.{lives-in}
 use Rattle.laws.proofs.State.{livesOf, Core}
 use Rattle.laws.proofs.Cores.{core-good}
 use Rattle.laws.proofs.Edits.{NotDesc, beyond-desc}
-use Rattle.demands.specs.Demand3.{blocksOf, SameByte, Cut}
+use Rattle.demands.specs.Owners.{blocksOf}
+use Rattle.demands.specs.Demand3.{SameByte, Cut}
 use Rattle.demands.proofs.Items.{found}
 use Rattle.demands.proofs.Named.{found-live}
 use Rattle.demands.proofs.Ownership.{Owned, owned}

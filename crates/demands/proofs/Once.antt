@@ -16,7 +16,7 @@ use Rattle.laws.proofs.Joins.{in-join, join-in, distinct-join}
 use Rattle.laws.proofs.Sets.{Same, same-back}
 use Rattle.laws.proofs.Entries.{indices}
 use Rattle.laws.proofs.State.{livesOf, Whole}
-use Rattle.demands.specs.Demand3.{allBlocks, times}
+use Rattle.demands.specs.Owners.{allBlocks, times}
 use Rattle.demands.proofs.Named.{root-live, named-live, named-other}
 use Rattle.demands.proofs.Ownership.{Owned, owned}
 use Rattle.layout.specs.declared.Shape.{Shape}

@@ -18,7 +18,8 @@ use Rattle.laws.proofs.Cores.{length-core}
 use Rattle.laws.proofs.Edits.{Edit}
 use Rattle.demands.specs.Plain.{knows}
 use Rattle.demands.specs.Shows.{plain}
-use Rattle.demands.specs.Demand3.{Taken, StreamParts, SameByte, SameStream, KeptDirectory}
+use Rattle.demands.specs.Parts.{Taken, StreamParts}
+use Rattle.demands.specs.Demand3.{SameByte, SameStream, KeptDirectory}
 use Rattle.demands.proofs.Items.{found, map-at}
 use Rattle.demands.proofs.Shown.{knows-same}
 use Rattle.demands.proofs.Named.{root-live, found-live, not-root}

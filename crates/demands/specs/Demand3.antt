@@ -1,15 +1,12 @@
 -- Demand 3, of any store: what the card is after an accepted call, read afresh from its bytes alone, and after any run from a newly
 -- formatted card.
 use mathlib.Core.Path.{_≡_}
-use mathlib.Core.Logic.{_⊎_}
 use Prim.Native.Nat.{ℕ, suc, _+_, _≤_, _<_}
-use mathlib.Core.List.{List, [], _∷_, _++_}
+use mathlib.Core.List.{List}
 use lib.ListN.{length, getD}
-use lib.Dec.{T, eqb}
-use Rattle.layout.specs.Bytes.{pick, holds, join}
-use Rattle.layout.specs.Blocks.{place, chain}
-use Rattle.layout.specs.Streams.{dataOf, spot, tall, table, tableBytes, offset, stream, streamBytes, tableBlocks, streamBlocks}
-use Rattle.layout.specs.Filing.{entriesOf}
+use lib.Dec.{T}
+use Rattle.layout.specs.Blocks.{place}
+use Rattle.layout.specs.Streams.{table, tableBytes, offset, stream, streamBytes}
 use Rattle.layout.specs.Header.{shaped, shapeOf}
 use Rattle.layout.specs.Sound.{broken}
 use Rattle.layout.specs.Calls.{indexOf}
@@ -18,92 +15,8 @@ use Rattle.demands.specs.Plain.{Plain, freeOf, tableSize, knows, plainCa
 use Rattle.demands.specs.Runs.{plainAfter, peak}
 use Rattle.demands.specs.Shows.{plain}
 use Rattle.demands.specs.Store.{Store, does, runs}
-use Rattle.layout.specs.declared.Shape.{Shape}
-
--- ---- who has which block
-
--- of a card: the table's blocks, the directory's, a named stream's, and the free chain
-abbrev pub tableOf : List ℕ → List ℕ
-tableOf c = tableBlocks c (shapeOf c)
-
-abbrev pub rootOf : List ℕ → List ℕ
-rootOf c = streamBlocks c (shapeOf c) 0
-
-abbrev pub blocksOf : List ℕ → List ℕ → List ℕ
-blocksOf c name = streamBlocks c (shapeOf c) (indexOf c name)
-
-abbrev pub chainOf : List ℕ → List ℕ
-chainOf c = chain c (shapeOf c)
-
--- all of them, one after the other
-unfoldable pub allBlocks : List ℕ → List ℕ
-allBlocks c = tableOf c ++ rootOf c ++ join (λ e. streamBlocks c (shapeOf c) (e .index)) (entriesOf c (shapeOf c) 0) ++ chainOf c
-
--- how often b stands in a list
-unfoldable pub times : ℕ → List ℕ → ℕ
-times b [] = 0
-times b (x ∷ xs) = pick (eqb b x) (suc (times b xs)) (times b xs)
-
--- ---- places of a card
-
-abbrev pub Within : ℕ → ℕ → ℕ → Type 0
-Within from n i = (from ≤ i) × (i < from + n)
-
--- byte i is in one of the blocks that Q says
-abbrev pub InBlocks : Shape → (ℕ → Type 0) → ℕ → Type 0
-InBlocks s Q i = (b : ℕ) × Q b × Within (place s b) (s .size) i
-
-abbrev pub Among : List ℕ → ℕ → Type 0
-Among bs b = T (holds b bs)
-
--- blocks taken from the chain between c and c′, and blocks given back to it
-abbrev pub Taken : List ℕ → List ℕ → ℕ → Type 0
-Taken c c′ b = Among (chainOf c) b × (Among (chainOf c′) b → ⊥)
-
-abbrev pub Freed : List ℕ → List ℕ → ℕ → Type 0
-Freed c c′ b = Among (chainOf c′) b × (Among (chainOf c) b → ⊥)
-
--- byte q of the table, and byte q of the directory, stands at i
-abbrev pub TableByte : List ℕ → ℕ → ℕ → Type 0
-TableByte c q i = let t = table c (shapeOf c) in i ≡ spot c (shapeOf c) (t .top) (tall (shapeOf c) (dataOf (shapeOf c) t)) q
-
-abbrev pub RootByte : List ℕ → ℕ → ℕ → Type 0
-RootByte c q i = let t = stream c (shapeOf c) 0 in i ≡ spot c (shapeOf c) (t .top) (tall (shapeOf c) (dataOf (shapeOf c) t)) q
-
--- byte i is in the descriptor of the stream with that name
-abbrev pub InDescriptor : List ℕ → List ℕ → ℕ → Type 0
-InDescriptor c name i = (q : ℕ) × Within (offset (indexOf c name)) 25 q × TableByte c q i
-
--- ---- the parts that document 01 lists for a call (L154 to L157)
-
-abbrev pub InFirstFree : List ℕ → ℕ → Type 0
-InFirstFree c i = Within (shapeOf c .first) 8 i
-
-abbrev pub InTableDescriptor : List ℕ → ℕ → Type 0
-InTableDescriptor c i = Within (shapeOf c .table) 25 i
-
--- write and truncate: the first-free field, the named stream's descriptor, its own blocks and blocks taken
-abbrev pub StreamParts : List ℕ → List ℕ → List ℕ → ℕ → Type 0
-StreamParts c name c′ i =
-    InFirstFree c i ⊎ (InDescriptor c name i ⊎ (InBlocks (shapeOf c) (Among (blocksOf c name)) i ⊎ InBlocks (shapeOf c) (Taken c c′) i))
-
--- create and delete: the first-free field, the table and its header descriptor, the root, the named stream's blocks and blocks taken
-abbrev pub DirectoryParts : List ℕ → List ℕ → List ℕ → ℕ → Type 0
-DirectoryParts c name c′ i =
-    InFirstFree c i ⊎ (InTableDescriptor c i ⊎ (InBlocks (shapeOf c) (Among (tableOf c)) i
-    ⊎ (InBlocks (shapeOf c) (Among (rootOf c)) i ⊎ (InBlocks (shapeOf c) (Among (blocksOf c name)) i ⊎ InBlocks (shapeOf c) (Taken c c′) i))))
-
--- the others touch no byte
-abbrev pub Listed : List ℕ → Call → List ℕ → ℕ → Type 0
-Listed c checks c′ i = ⊥
-Listed c rooms c′ i = ⊥
-Listed c (sizes name) c′ i = ⊥
-Listed c (reads name p tray) c′ i = ⊥
-Listed c (lists k tray) c′ i = ⊥
-Listed c (writes name p vs) c′ i = StreamParts c name c′ i
-Listed c (truncates name n) c′ i = StreamParts c name c′ i
-Listed c (creates name) c′ i = DirectoryParts c name c′ i
-Listed c (deletes name) c′ i = DirectoryParts c name c′ i
+use Rattle.demands.specs.Owners.{blocksOfTable, blocksOfRoot, blocksOf, freeChain, allBlocks, times}
+use Rattle.demands.specs.Parts.{Within, Among, Freed, RootByte, Listed}
 
 -- ---- after an accepted call
 
@@ -129,9 +42,9 @@ pub record SameStream (c c′ name : List ℕ) : Type 0 where
 -- and the named stream its index
 pub record KeptDirectory (c name c′ : List ℕ) : Type 0 where
   pub index : indexOf c′ name ≡ indexOf c name
-  pub root-blocks : rootOf c′ ≡ rootOf c
+  pub root-blocks : blocksOfRoot c′ ≡ blocksOfRoot c
   pub root-bytes : streamBytes c′ (shapeOf c′) 0 ≡ streamBytes c (shapeOf c) 0
-  pub table-blocks : tableOf c′ ≡ tableOf c
+  pub table-blocks : blocksOfTable c′ ≡ blocksOfTable c
   pub table-length : length (tableBytes c′ (shapeOf c′)) ≡ length (tableBytes c (shapeOf c))
   pub table-bytes : (q : ℕ) → (Within (offset (indexOf c name)) 25 q → ⊥) → getD (tableBytes c′ (shapeOf c′)) q 0 ≡ getD (tableBytes c (shapeOf c)) q 0
 
@@ -150,7 +63,7 @@ pub record Cut (c name c′ : List ℕ) : Type 0 where
 
 -- delete: bytes past the directory's new end, in a block that it keeps, stay
 pub record Pulled (c c′ : List ℕ) : Type 0 where
-  pub kept : (b : ℕ) → Among (rootOf c′) b → (i : ℕ) → Within (place (shapeOf c) b) (shapeOf c .size) i
+  pub kept : (b : ℕ) → Among (blocksOfRoot c′) b → (i : ℕ) → Within (place (shapeOf c) b) (shapeOf c .size) i
       → ((q : ℕ) → q < stream c′ (shapeOf c′) 0 .size → RootByte c q i → ⊥) → SameByte c c′ i
   pub freed : FreedKept c c′
 
@@ -187,7 +100,7 @@ pub record Leaves (c : List ℕ) (k : Call) (c′ : List ℕ) : Type 0 where
 pub record NewCard (len shift : ℕ) (c : List ℕ) : Type 0 where
   pub passes : broken c ≡ 0
   pub shows : plain c ≡ plainNew shift (shaped len shift .count)
-  pub free : length (chainOf c) + 1 ≡ shaped len shift .count
+  pub free : length (freeChain c) + 1 ≡ shaped len shift .count
   pub long : length c ≡ len
 
 -- the card c that a run leaves, the free blocks that the store then tells, and the list p that the plain calls leave: nothing on the
@@ -196,7 +109,7 @@ pub record Counts (c : List ℕ) (told : ℕ) (p : Plain) (most : ℕ) : Type 0 
   pub passes : broken c ≡ 0
   pub shows : plain c ≡ p
   -- the free blocks number the card's blocks less what the layout needs for the lengths that are left
-  pub free : length (chainOf c) ≡ freeOf p
+  pub free : length (freeChain c) ≡ freeOf p
   pub free-told : told ≡ freeOf p
   -- the table has one descriptor for the root, and one for each of the most streams ever held at once
   pub table-long : table c (shapeOf c) .size ≡ tableSize (most + 1)

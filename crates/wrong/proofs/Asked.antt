@@ -15,7 +15,8 @@ use Rattle.demands.specs.Runs.{plainAfter}
 use Rattle.demands.specs.Shows.{plain}
 use Rattle.demands.specs.Store.{Store, does, runs}
 use Rattle.demands.specs.Demand2.{Demand2}
-use Rattle.demands.specs.Demand3.{Concerns, blocksOf, allBlocks, times, Demand3}
+use Rattle.demands.specs.Owners.{blocksOf, allBlocks, times}
+use Rattle.demands.specs.Demand3.{Concerns, Demand3}
 use Rattle.demands.proofs.Free.{used-and-free}
 use Rattle.wrong.specs.Tests.{sameOrder, inOne, rightCount}
 

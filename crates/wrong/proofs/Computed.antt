@@ -12,7 +12,7 @@ use Rattle.layout.specs.Header.{shapeOf, fixed, newHeader, goodShape}
 use Rattle.layout.specs.Sound.{rightDesc, liveForm, freeForm, used, reached, rule1, rule2, rule3, rule4, rule5, rule6, rule7, rule8, broken}
 use Rattle.layout.specs.Calls.{firstNo, linksFrom, formatted, format, check, room, size, read, list, written, write, truncate, described, created, create, undescribed, deleted, delete}
 use Rattle.demands.specs.Call.{writes}
-use Rattle.demands.specs.Demand3.{allBlocks, times}
+use Rattle.demands.specs.Owners.{allBlocks, times}
 use Rattle.demands.specs.Store.{does, runs}
 use Rattle.wrong.specs.Cards.{a, b, twoStreams}
 use Rattle.wrong.specs.Stores.{turning, sharing, turned, shared}

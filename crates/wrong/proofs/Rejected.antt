@@ -1,4 +1,4 @@
--- The six wrong stores of document 01: each fails the demand that is named for it there.
+-- The six wrong stores that answer wrongly or do no work: which demand each of them fails, and by what.
 use mathlib.Core.Path.{_≡_, refl, sym, ap, _∙_}
 use mathlib.Core.List.{List, [], _∷_}
 use Prim.Native.Nat.{ℕ, suc}

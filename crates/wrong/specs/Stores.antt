@@ -1,4 +1,4 @@
--- Wrong stores. The first six are those of which document 01 says which demand rejects them.
+-- Wrong stores: six that answer wrongly or do no work, and two that work in the wrong blocks.
 use Prim.Native.Nat.{ℕ, zero, suc, _+_, _-_}
 use mathlib.Core.List.{List, []}
 use lib.ListN.{length}

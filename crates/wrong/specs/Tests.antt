@@ -7,7 +7,7 @@ use lib.ListN.{length}
 use lib.Dec.{eqb}
 use Rattle.layout.specs.Bytes.{same}
 use Rattle.demands.specs.Plain.{Plain, needs, sum, rootSize, tableSize, blockSize}
-use Rattle.demands.specs.Demand3.{blocksOf, allBlocks, times}
+use Rattle.demands.specs.Owners.{blocksOf, allBlocks, times}
 
 -- demand 3: a stream that the call does not concern has the same blocks, in the same order
 unfoldable pub sameOrder : List ℕ → List ℕ → List ℕ → Bool
