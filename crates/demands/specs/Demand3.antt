@@ -67,7 +67,7 @@ pub record Pulled (c c′ : List ℕ) : Type 0 where
       → ((q : ℕ) → q < stream c′ (shapeOf c′) 0 .size → RootByte c q i → ⊥) → SameByte c c′ i
   pub freed : FreedKept c c′
 
--- what is said of one call alone
+-- more closely, of one call alone
 abbrev pub Closely : List ℕ → Call → List ℕ → Type 0
 Closely c checks c′ = c′ ≡ c
 Closely c rooms c′ = c′ ≡ c
@@ -92,6 +92,7 @@ pub record Leaves (c : List ℕ) (k : Call) (c′ : List ℕ) : Type 0 where
   -- only the parts listed for the call have changed: where a byte differs, it lies in one of them
   pub long : length c′ ≡ length c
   pub parts : (i : ℕ) → (SameByte c c′ i → ⊥) → Listed c k c′ i
+  -- and what is said of one call alone
   pub closely : Closely c k c′
 
 -- ---- format, and runs from a newly formatted card

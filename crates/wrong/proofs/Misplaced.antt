@@ -1,5 +1,5 @@
--- Two stores whose answers are all right and whose blocks are not: demand 3 rejects them by the order of the blocks, and by each block
--- being in exactly one place.
+-- Two stores that answer as ours does, with wrong blocks: demand 3 rejects one by the order of the blocks, the other by each block being
+-- in exactly one place.
 use mathlib.Core.Path.{_≡_, refl, ap, _∙_}
 use mathlib.Core.List.{List, [], _∷_}
 use Prim.Native.Nat.{ℕ}

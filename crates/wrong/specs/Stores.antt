@@ -109,7 +109,22 @@ forgetting = record {
   list = ours .list;
 }
 
--- ---- two more, whose answers are all right: only the blocks are not
+-- ---- two more, which answer as ours does: only their blocks are wrong
+
+-- ours but for its write
+abbrev pub writing : (ℕ → List ℕ → List ℕ → ℕ → List ℕ → Outcome) → Store
+writing w = record {
+  format = ours .format;
+  check = ours .check;
+  room = ours .room;
+  create = ours .create;
+  write = w;
+  read = ours .read;
+  truncate = ours .truncate;
+  delete = ours .delete;
+  size = ours .size;
+  list = ours .list;
+}
 
 -- a card on which the first two data blocks of stream 1, below its top, are exchanged: bytes and slots
 unfoldable pub turned : List ℕ → Shape → List ℕ
@@ -122,18 +137,7 @@ turned c s =
 
 -- its write turns another stream
 abbrev pub turning : Store
-turning = record {
-  format = ours .format;
-  check = ours .check;
-  room = ours .room;
-  create = ours .create;
-  write = λ n c name p vs. let o = ours .write n c name p vs in leaving o (turned (o .card) (shapeOf c));
-  read = ours .read;
-  truncate = ours .truncate;
-  delete = ours .delete;
-  size = ours .size;
-  list = ours .list;
-}
+turning = writing (λ n c name p vs. let o = ours .write n c name p vs in leaving o (turned (o .card) (shapeOf c)))
 
 -- a card on which the named stream has the blocks of stream 1
 unfoldable pub shared : List ℕ → Shape → List ℕ → List ℕ
@@ -141,15 +145,4 @@ shared c s name = let t = stream c s 1 in descSet c s (indexOf c name) (t .size)
 
 -- its write lets one block be in two streams
 abbrev pub sharing : Store
-sharing = record {
-  format = ours .format;
-  check = ours .check;
-  room = ours .room;
-  create = ours .create;
-  write = λ n c name p vs. leaving (ours .write n c name p vs) (shared c (shapeOf c) name);
-  read = ours .read;
-  truncate = ours .truncate;
-  delete = ours .delete;
-  size = ours .size;
-  list = ours .list;
-}
+sharing = writing (λ n c name p vs. leaving (ours .write n c name p vs) (shared c (shapeOf c) name))
