@@ -17,7 +17,7 @@ use Rattle.demands.specs.Call.{Call, checks, rooms, sizes, reads, lists,
 use Rattle.demands.specs.Plain.{Plain, freeOf, badName, notKnown, alreadyKnown, pastTheEnd, streamsFull, blocksFor, situations, plainCheck, plainRoom, plainSize, plainRead, plainList, plainWrite, plainTruncate, plainCreate, plainDelete, plainCall}
 use Rattle.demands.specs.Shows.{plain}
 use Rattle.demands.specs.Store.{does, ours}
-use Rattle.demands.specs.Demand2.{Given, Plays, Demand2}
+use Rattle.demands.specs.Demand2.{Given, ActsPlainly, Demand2}
 use Rattle.demands.proofs.Numbers.{plain-number-is}
 use Rattle.demands.proofs.Exactly.{Rising, exactly, never-given, last-given}
 use Rattle.demands.proofs.History.{call-refines}
@@ -62,8 +62,8 @@ too-many p (deletes name) g = absurd (never-given 7 (situations p (deletes name)
 
 -- ---- on a card that passes its check
 
-plays : (n : ℕ) (c : List ℕ) → broken c ≡ 0 → (k : Call) → Plays (plain c) k (does ours n c k)
-plays n c e k =
+plainly : (n : ℕ) (c : List ℕ) → broken c ≡ 0 → (k : Call) → ActsPlainly (plain c) k (does ours n c k)
+plainly n c e k =
     let p = plain c in
     let r = call-refines n c e k in
     let first : does ours n c k .number ≡ firstNo (situations p k) = r .answers .number ∙ plain-number p k in
@@ -106,4 +106,4 @@ shape-asked c shift = go (goodShape (length c) shift) _ _ refl refl
     go false a b x y = y
 
 pub meets-demand2 : Demand2 ours
-meets-demand2 = record { plays = plays; damaged = λ n c b k. damage c b n k; formats = λ n c shift. shape-asked c shift }
+meets-demand2 = record { plainly = plainly; damaged = λ n c b k. damage c b n k; formats = λ n c shift. shape-asked c shift }

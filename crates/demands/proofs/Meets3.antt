@@ -18,7 +18,7 @@ use Rattle.demands.specs.Plain.{plainRoom, plainCall, plainNew}
 use Rattle.demands.specs.Runs.{plainAfter, peak}
 use Rattle.demands.specs.Shows.{plain}
 use Rattle.demands.specs.Store.{does, runs, ours}
-use Rattle.demands.specs.Demand3.{Closely, Leaves, NewCard, Counts, Demand3}
+use Rattle.demands.specs.Demand3.{Closely, Leaves, NewCard, RunLeaves, Demand3}
 use Rattle.demands.proofs.Values.{check-values, room-values, size-values, read-values, list-values}
 use Rattle.demands.proofs.Writes.{writeWants, write-done}
 use Rattle.demands.proofs.Truncates.{truncate-done}
@@ -152,7 +152,7 @@ module _ (c : List ℕ) (shift : ℕ) (z : format c shift .number ≡ 0) where
   counts : (n : ℕ) (ks : List Call)
       → let new = plainNew shift (shaped len shift .count) in
       let left = runs ours n (format c shift .card) ks in
-      Counts left (room left .count) (plainAfter new ks) (peak new ks)
+      RunLeaves left (room left .count) (plainAfter new ks) (peak new ks)
   unfolding does plainCall plainRoom
   counts n ks = rw (format-done c shift suited) (record {
     passes = run-sound len shift suited n ks;

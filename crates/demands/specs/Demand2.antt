@@ -35,7 +35,7 @@ abbrev pub Lowest : List Test → ℕ → Type 0
 Lowest tests n = Given tests n × ((m : ℕ) → m < n → Given tests m → ⊥)
 
 -- one call on a card that passes its check, that shows the plain list p
-pub record Plays (p : Plain) (k : Call) (o : Outcome) : Type 0 where
+pub record ActsPlainly (p : Plain) (k : Call) (o : Outcome) : Type 0 where
   -- it answers as on the plain list, and acts so
   pub answers : Answers o (plainCall p k)
   pub acts : plain (o .card) ≡ plainCall p k .after
@@ -45,7 +45,7 @@ pub record Plays (p : Plain) (k : Call) (o : Outcome) : Type 0 where
   pub room : blocksFor p k ≤ freeOf p → o .number ≢ 7
 
 pub record Demand2 (S : Store) : Type 0 where
-  pub plays : (n : ℕ) (c : List ℕ) → broken c ≡ 0 → (k : Call) → Plays (plain c) k (does S n c k)
+  pub plainly : (n : ℕ) (c : List ℕ) → broken c ≡ 0 → (k : Call) → ActsPlainly (plain c) k (does S n c k)
   -- any other card is DAMAGED, with the lowest broken rule
   pub damaged : (n : ℕ) (c : List ℕ) → broken c ≢ 0 → (k : Call) → (does S n c k .number ≡ 1) × (does S n c k .rule ≡ broken c)
   -- format asks for a good shape, and for nothing of the card

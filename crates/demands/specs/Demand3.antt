@@ -106,7 +106,7 @@ pub record NewCard (len shift : ℕ) (c : List ℕ) : Type 0 where
 
 -- the card c that a run leaves, the free blocks that the store then tells, and the list p that the plain calls leave: nothing on the
 -- right is read from the card
-pub record Counts (c : List ℕ) (told : ℕ) (p : Plain) (most : ℕ) : Type 0 where
+pub record RunLeaves (c : List ℕ) (told : ℕ) (p : Plain) (most : ℕ) : Type 0 where
   pub passes : broken c ≡ 0
   pub shows : plain c ≡ p
   -- the free blocks number the card's blocks less what the layout needs for the lengths that are left
@@ -122,4 +122,4 @@ pub record Demand3 (S : Store) : Type 0 where
   pub history : (n : ℕ) (c : List ℕ) (shift : ℕ) → S .format n c shift .number ≡ 0 → (ks : List Call)
       → let new = plainNew shift (shaped (length c) shift .count) in
       let left = runs S (suc n) (S .format n c shift .card) ks in
-      Counts left (S .room (suc n + length ks) left .count) (plainAfter new ks) (peak new ks)
+      RunLeaves left (S .room (suc n + length ks) left .count) (plainAfter new ks) (peak new ks)

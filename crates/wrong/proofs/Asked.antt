@@ -51,7 +51,7 @@ in-use c e = omega (arith, used-and-free c (sound c e))
 
 pub count-asked : (S : Store) → Demand2 S → (n : ℕ) (c : List ℕ) → broken c ≡ 0 → T (rightCount (plain c) (S .room n c .count))
 unfolding does plainCall plainRoom
-count-asked S d n c e = count-is (plain c) (in-use c e) (S .room n c .count) .back (d .plays n c e rooms .answers .count)
+count-asked S d n c e = count-is (plain c) (in-use c e) (S .room n c .count) .back (d .plainly n c e rooms .answers .count)
 
 pub count-asked-later : (S : Store) → Demand3 S → (c : List ℕ) (shift : ℕ) → S .format 0 c shift .number ≡ 0 → (ks : List Call)
     → T (rightCount (plainAfter (plainNew shift (shaped (length c) shift .count)) ks) (S .room (1 + length ks) (runs S 1 (S .format 0 c shift .card) ks) .count))

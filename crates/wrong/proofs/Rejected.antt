@@ -29,7 +29,7 @@ use Rattle.wrong.proofs.Asked.{count-asked, count-asked-later}
 -- a check of a sound card has no situation in which to refuse
 pub refusing-fails : (m : ℕ) → Demand2 (refusing m) → ⊥
 unfolding does runs
-refusing-fails m d = d .plays 0 empty (small-sound []) checks .refuses (suc m) (omega arith) .0 refl .0
+refusing-fails m d = d .plainly 0 empty (small-sound []) checks .refuses (suc m) (omega arith) .0 refl .0
 
 -- ---- one constant answer: demand 2, by the names and bytes
 
@@ -40,32 +40,33 @@ byte-read at v e = ap (λ (p : Plain). plainCall p (reads a at (0 ∷ [])) .tray
 pub constant-fails : (o : Outcome) → Demand2 (constant o) → ⊥
 unfolding does firstNo same holds spliced climb P goodName usedBy freeOf lookUp edited plainRead plainWrite plainCreate plainCall plainAfter
 constant-fails o d =
-    let five : o .tray ≡ 5 ∷ [] = d .plays 0 twoBytes (small-sound filled) (reads a 0 (0 ∷ [])) .answers .tray ∙ byte-read 0 5 refl in
-    let six : o .tray ≡ 6 ∷ [] = d .plays 0 twoBytes (small-sound filled) (reads a 1 (0 ∷ [])) .answers .tray ∙ byte-read 1 6 refl in
+    let five : o .tray ≡ 5 ∷ [] = d .plainly 0 twoBytes (small-sound filled) (reads a 0 (0 ∷ [])) .answers .tray ∙ byte-read 0 5 refl in
+    let six : o .tray ≡ 6 ∷ [] = d .plainly 0 twoBytes (small-sound filled) (reads a 1 (0 ∷ [])) .answers .tray ∙ byte-read 1 6 refl in
     omega (arith, ap (λ (l : List ℕ). getD l 0 0) (sym five ∙ six))
 
 -- ---- doing nothing and saying done: demand 3, by the edit seen on rereading
 
-items : Plain → ℕ
-items p = length (p .items)
+-- the same list has as many items
+as-many : (p q : Plain) → p ≡ q → length (p .items) ≡ length (q .items)
+as-many p q e = ap (λ (p : Plain). length (p .items)) e
 
 pub idle-fails : Demand3 idle → ⊥
-unfolding does runs items firstNo same holds climb P goodName usedBy freeOf lookUp plainCreate plainCall plainAfter
+unfolding does runs firstNo same holds climb P goodName usedBy freeOf lookUp plainCreate plainCall plainAfter
 idle-fails d =
     let shows : plain empty ≡ plainCall (plain empty) (creates a) .after = d .leaves 0 empty (small-sound []) (creates a) refl .shows in
-    let counts : items (plainNew 6 4) ≡ items (plainCall (plainNew 6 4) (creates a) .after) = ap items (rw (small-plain []) at shows) in
-    omega arith
+    let p : Plain = plainNew 6 4 in
+    omega (arith, as-many p (plainCall p (creates a) .after) (rw (small-plain []) at shows))
 
 -- ---- working in the first call of a run and idling after: demand 3 again, since each accepted call owes its own edit
 
 -- the first call of the run makes "a", as it should; the second is to make "b"
 pub tiring-fails : Demand3 tiring → ⊥
-unfolding does runs items firstNo same holds climb P goodName usedBy freeOf lookUp plainCreate plainCall plainAfter
+unfolding does runs firstNo same holds climb P goodName usedBy freeOf lookUp plainCreate plainCall plainAfter
 tiring-fails d =
     let c = runs tiring 0 empty made in
     let shows : plain oneStream ≡ plainCall (plain oneStream) (creates b) .after = d .leaves 1 c (small-sound made) (creates b) refl .shows in
-    let counts : items (plainAfter (plainNew 6 4) made) ≡ items (plainCall (plainAfter (plainNew 6 4) made) (creates b) .after) = ap items (rw (small-plain made) at shows) in
-    omega arith
+    let p : Plain = plainAfter (plainNew 6 4) made in
+    omega (arith, as-many p (plainCall p (creates b) .after) (rw (small-plain made) at shows))
 
 -- ---- an invented read count: demand 2, by the minimum
 
@@ -74,7 +75,7 @@ pub boasting-fails : Demand2 boasting → ⊥
 unfolding does firstNo same holds spliced climb P goodName usedBy freeOf lookUp edited plainRead plainWrite plainCreate plainCall plainAfter
 boasting-fails d =
     let k : Call = reads a 2 (0 ∷ 0 ∷ []) in
-    let told : fullTray (plain twoBytes) a 2 (0 ∷ 0 ∷ []) ≡ plainCall (plain twoBytes) k .count = d .plays 0 twoBytes (small-sound filled) k .answers .count in
+    let told : fullTray (plain twoBytes) a 2 (0 ∷ 0 ∷ []) ≡ plainCall (plain twoBytes) k .count = d .plainly 0 twoBytes (small-sound filled) k .answers .count in
     let least : fullTray (plainAfter (plainNew 6 4) filled) a 2 (0 ∷ 0 ∷ []) ≡ 0 = rw (small-plain filled) at told in
     omega arith
 
