@@ -13,16 +13,13 @@ use Rattle.layout.specs.Streams.{dataOf, laid, stream, inStream, lengthened, sh
 use Rattle.layout.specs.Filing.{entryBytes}
 use Rattle.laws.proofs.Picks.{leb-yes, leb-no}
 use Rattle.laws.proofs.ByteLaws.{length-bytes, over-append, take-over}
+use Rattle.laws.proofs.Listing.{length-entry}
 use Rattle.laws.proofs.Laying.{length-contents}
 use Rattle.filing.specs.Edited.{page, bytesOf, moved, entered, drawn, removed}
 use Rattle.layout.specs.declared.Shape.{Shape}
 use Rattle.layout.specs.declared.Desc.{Desc}
 
 -- ---- an entry more
-
-pub length-entry : (index : ℕ) (name : List ℕ) → length (entryBytes index name) ≡ 6 + length name
-unfolding entryBytes
-length-entry index name = simp (length-append, length-bytes) (omega arith)
 
 pub entry-put : (l l₁ l₂ l₃ : List ℕ) (index : ℕ) (name : List ℕ) → l₁ ≡ put 4 l 0 index → l₂ ≡ put 2 l₁ 4 (length name) → l₃ ≡ over l₂ 6 (take (length name) (drop 0 name))
     → l₃ ≡ over l 0 (entryBytes index name)
