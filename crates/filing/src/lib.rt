@@ -2,4 +2,5 @@
 
 pub mod edits;
 pub mod entries;
+pub mod listing;
 pub mod names;
