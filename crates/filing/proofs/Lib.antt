@@ -2,3 +2,4 @@ pub mod Naming
 pub mod Finding
 pub mod Editing
 pub mod Drawing
+pub mod Answers
