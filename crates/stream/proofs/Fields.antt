@@ -11,7 +11,7 @@ use Rattle.layout.specs.Bytes.{num, bytes, over, put}
 use Rattle.layout.specs.Pyramid.{height}
 use Rattle.layout.specs.Blocks.{fan}
 use Rattle.layout.specs.Streams.{descIn, dataOf, fields, contents, laid, table, tableBytes, offset, descOf, stream, inTable, inStream, descSet}
-use Rattle.laws.proofs.ByteLaws.{length-bytes, over-append, over-in, over-out, take-over}
+use Rattle.laws.proofs.ByteLaws.{length-bytes, length-over, over-append, over-in, over-out, take-over}
 use Rattle.laws.proofs.Descs.{length-fields}
 use Rattle.layout.specs.declared.Shape.{Shape}
 use Rattle.layout.specs.declared.Desc.{Desc}
@@ -97,3 +97,13 @@ table-laid c c₁ s p h vs t a b e =
 pub stream-laid : (c c₁ : List ℕ) (s : Shape) (k p h : ℕ) (vs : List ℕ) (t : Desc) → t ≡ stream c s k → h ≡ height (fan s) (dataOf s t) → c₁ ≡ laid c s (t .top) h p vs → c₁ ≡ inStream c s k p vs
 unfolding inStream
 stream-laid c c₁ s k p h vs t a b e = e ∙ rw (b, a)
+
+-- a page that is written over from end to end
+pub page-whole : (w : ℕ) (page vs : List ℕ) → length vs ≡ w → page ≡ over (replicate w 0) 0 vs → page ≡ vs
+page-whole w page vs e f =
+    let n : length (over (replicate w 0) 0 vs) ≡ w = length-over (replicate w 0) 0 vs ∙ length-replicate w 0 in
+    f ∙ sym (take-all w (over (replicate w 0) 0 vs) (omega arith)) ∙ take-over (replicate w 0) vs w (sym e) (rw length-replicate (omega arith))
+
+pub number-laid : (c c₁ page : List ℕ) (s : Shape) (p v : ℕ) → page ≡ put 8 (replicate 8 0) 0 v → c₁ ≡ inTable c s p page → c₁ ≡ inTable c s p (bytes 8 v)
+unfolding put
+number-laid c c₁ page s p v e f = f ∙ rw (page-whole 8 page (bytes 8 v) (length-bytes 8 v) e)

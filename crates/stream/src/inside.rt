@@ -6,10 +6,11 @@ use crate::lay::lay;
 use blocks::pyramid::height;
 use layout::Shape;
 use memory::bytes::number;
+use memory::bytes::put_number;
 ghost use mathlib.Core.Path.{_≡_};
 ghost use Prim.Native.Nat.{_^_, _<_, _≤_};
 ghost use lib.ListN.{length, take};
-ghost use Rattle.layout.specs.Bytes.{num};
+ghost use Rattle.layout.specs.Bytes.{num, bytes};
 ghost use Rattle.layout.specs.Streams.{tableBytes, inTable, inStream};
 ghost use Rattle.layout.specs.Ranges.{Small};
 
@@ -41,4 +42,14 @@ pub fn lay_in_stream(card: &mut [u8], s: Shape, k: usize, p: usize, given: &[u8]
     let t = stream(card, s, k);
     let h = height(s.size / 4, t.reserved / s.size);
     lay(card, s, t.top, h, p, given, 0, n);
+}
+
+// The number `v` goes into the table's 8 bytes at `p`.
+pub fn put_table_number(card: &mut [u8], s: Shape, p: usize, v: usize)
+    requires { ⌜ Small (now card) s × (p < 2 ^ 62) ⌝ }
+    ensures { λ _. ⌜ now (card .exit) ≡ inTable (now (card .entry)) s p (bytes 8 v) ⌝ }
+{
+    let mut page = [0; 8];
+    put_number(&mut page, 0, 8, v);
+    lay_in_table(card, s, p, &page);
 }
