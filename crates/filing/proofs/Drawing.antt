@@ -100,9 +100,9 @@ module _ (s : Shape) (good : Good s) (t : Desc) (free : List ℕ) (within : t .s
         let bytes₂ : bytesOf c₂ s t ≡ over old p vs = contents-laid s good c (t .top) d (t .size) p vs free room sk within (omega arith) in
         let rest : drop (q + n) (bytesOf c₂ s t) ≡ ws = rw (bytes₂, drop-over old p vs (q + n) (omega arith)) (sym (drop-drop n q old)) in
         let more : laid c₂ s (t .top) (tall s d) (p + n) ws ≡ laid c s (t .top) (tall s d) p (drop q old) =
-          ap (λ (x : ℕ). laid c₂ s (t .top) (tall s d) (p + x) ws) (sym ln)
-          ∙ laid-follows s good c (t .top) (tall s d) d p vs ws free room sk (omega arith)
-          ∙ ap (laid c s (t .top) (tall s d) p) (take-append-drop n (drop q old)) in
+        ap (λ (x : ℕ). laid c₂ s (t .top) (tall s d) (p + x) ws) (sym ln)
+        ∙ laid-follows s good c (t .top) (tall s d) d p vs ws free room sk (omega arith)
+        ∙ ap (laid c s (t .top) (tall s d) p) (take-append-drop n (drop q old)) in
         rw (leb-no {a = t .size} {b = q} (omega arith)) (drawn-is g c₂ (p + n) (q + n) room₂ sk₂ (omega arith) (omega arith) ∙ ap (laid c₂ s (t .top) (tall s d) (p + n)) rest ∙ more))
   ]
 

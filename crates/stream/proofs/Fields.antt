@@ -98,12 +98,12 @@ pub stream-laid : (c c₁ : List ℕ) (s : Shape) (k p h : ℕ) (vs : List ℕ) 
 unfolding inStream
 stream-laid c c₁ s k p h vs t a b e = e ∙ rw (b, a)
 
--- a page that is written over from end to end
-pub page-whole : (w : ℕ) (page vs : List ℕ) → length vs ≡ w → page ≡ over (replicate w 0) 0 vs → page ≡ vs
-page-whole w page vs e f =
-    let n : length (over (replicate w 0) 0 vs) ≡ w = length-over (replicate w 0) 0 vs ∙ length-replicate w 0 in
-    f ∙ sym (take-all w (over (replicate w 0) 0 vs) (omega arith)) ∙ take-over (replicate w 0) vs w (sym e) (rw length-replicate (omega arith))
+-- written over from end to end
+pub over-whole : (l vs : List ℕ) → length vs ≡ length l → over l 0 vs ≡ vs
+over-whole l vs e =
+    let n = length-over l 0 vs in
+    sym (take-all (length l) (over l 0 vs) (omega arith)) ∙ take-over l vs (length l) (sym e) (omega arith)
 
 pub number-laid : (c c₁ page : List ℕ) (s : Shape) (p v : ℕ) → page ≡ put 8 (replicate 8 0) 0 v → c₁ ≡ inTable c s p page → c₁ ≡ inTable c s p (bytes 8 v)
 unfolding put
-number-laid c c₁ page s p v e f = f ∙ rw (page-whole 8 page (bytes 8 v) (length-bytes 8 v) e)
+number-laid c c₁ page s p v e f = f ∙ rw (e, over-whole (replicate 8 0) (bytes 8 v) (length-bytes 8 v))
