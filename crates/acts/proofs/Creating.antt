@@ -1,14 +1,13 @@
 -- A new stream: its index, its descriptor, the blocks that it wants, its entry.
-use mathlib.Core.Path.{_≡_, refl, sym, ap, _∙_}
-use mathlib.Core.Logic.{_≢_}
+use mathlib.Core.Path.{_≡_, sym, ap, _∙_}
 use mathlib.Core.List.{List}
-use Prim.Native.Nat.{ℕ, _+_, _-_, _*_, _/_, _^_, _≤_, _<_}
+use Prim.Native.Nat.{ℕ, _+_, _-_, _*_, _/_, _^_, _<_}
 use native.Mathlib.Nat.{zero-add, div-mul-le-self}
 use native.Mathlib.Omega.{arith}
 use lib.ListN.{length, replicate}
 use borrow.Author.Tests.{eq-eqb, ne-eqb}
 use Rattle.layout.specs.Bytes.{pick, num, bytes, end8}
-use Rattle.layout.specs.Streams.{table, tableBytes, offset, slots, firstDesc, stream, streamBytes, inTable, wants, tableLengthened}
+use Rattle.layout.specs.Streams.{table, tableBytes, offset, slots, stream, streamBytes, inTable, wants, tableLengthened}
 use Rattle.layout.specs.Filing.{withEntry}
 use Rattle.layout.specs.Calls.{reuse, newIndex, described, directoryWith, createWantsIn, createdIn}
 use Rattle.laws.proofs.Entries.{with-length}

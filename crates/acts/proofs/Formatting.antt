@@ -1,7 +1,7 @@
 -- A new card: numbers and fixed values laid one after the other are the header, and links laid one by one the chain.
-use mathlib.Core.Path.{_≡_, refl, sym, ap, _∙_}
+use mathlib.Core.Path.{_≡_, refl, _∙_}
 use mathlib.Core.List.{List, [], _∷_, _++_}
-use Prim.Native.Nat.{ℕ, zero, suc, _+_, _-_, _<_}
+use Prim.Native.Nat.{ℕ, suc, _+_, _-_, _<_}
 use native.Mathlib.Nat.{zero-add, mod-eq-of-lt}
 use native.Mathlib.Omega.{arith}
 use lib.ListN.{length, replicate, length-append, length-replicate}
@@ -11,7 +11,7 @@ use Rattle.layout.specs.Bytes.{pick, bytes, over, put, end4, end8}
 use Rattle.layout.specs.Blocks.{place, slotPlace}
 use Rattle.layout.specs.Header.{head1, head2, head3, head4, newHeader}
 use Rattle.layout.specs.Calls.{linksFrom, formattedIn}
-use Rattle.laws.proofs.ByteLaws.{length-bytes, length-over, over-append}
+use Rattle.laws.proofs.ByteLaws.{length-bytes, over-append}
 use Rattle.stream.proofs.Fields.{over-whole}
 use Rattle.acts.specs.Front.{newFront}
 use Rattle.layout.specs.declared.Shape.{Shape}

@@ -4,3 +4,4 @@ pub mod Writing
 pub mod Creating
 pub mod Deleting
 pub mod Naming
+pub mod Sound

@@ -1,5 +1,5 @@
 -- What is read: a stream's size, its bytes in the tray, how many blocks it wants.
-use mathlib.Core.Path.{_≡_, refl, sym, ap, _∙_}
+use mathlib.Core.Path.{_≡_, ap, _∙_}
 use mathlib.Core.List.{List}
 use Prim.Native.Nat.{ℕ, _+_, _-_, _*_, _/_, _^_, min, max, _≤_, _<_}
 use native.Mathlib.Omega.{arith}

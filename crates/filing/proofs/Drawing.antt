@@ -12,7 +12,7 @@ use Rattle.layout.specs.Bytes.{over}
 use Rattle.layout.specs.Pyramid.{level}
 use Rattle.layout.specs.Blocks.{chain}
 use Rattle.layout.specs.Streams.{dataOf, spot, tall, laidTo, laidRows, laid, stream, streamBytes, inStream}
-use Rattle.layout.specs.Filing.{Entry, entriesOf, entryBytes, reads, nothing, withEntry, withoutEntry, extended, pulled}
+use Rattle.layout.specs.Filing.{Entry, entries, entryBytes, reads, nothing, withEntry, withoutEntry, extended, pulled}
 use Rattle.laws.proofs.Picks.{leb-yes, leb-no}
 use Rattle.laws.proofs.ByteLaws.{over-out, length-over}
 use Rattle.laws.proofs.Chain.{Good, Room}
@@ -115,28 +115,25 @@ entered-is c s k p index name r e =
     let b : length (withEntry r index name) ≡ p + 6 + length name = rw e at (with-length r index name) in
     rw (a, b)
 
-module _ (c : List ℕ) (s : Shape) (w : Core c s) (k : ℕ) (lk : In k (livesOf c s)) (i : ℕ) (reading : T (reads (streamBytes c s k))) (there : i < length (entriesOf c s k)) where
+module _ (c : List ℕ) (s : Shape) (w : Core c s) (k : ℕ) (lk : In k (livesOf c s)) (r : List ℕ) (is : streamBytes c s k ≡ r) (i : ℕ) (reading : T (reads r)) (there : i < length (entries r)) where
   abbrev t : Desc
   t = stream c s k
 
-  abbrev r : List ℕ
-  r = streamBytes c s k
-
   abbrev e : Entry
-  e = getD (entriesOf c s k) i nothing
+  e = getD (entries r) i nothing
 
   abbrev n : ℕ
   n = 6 + length (e .name)
 
   all-drawn : drawn (t .size) c s t (e .at) (e .at + n) ≡ inStream c s k (e .at) (drop (e .at) (withoutEntry r e))
-  unfolding inStream streamBytes entriesOf
+  unfolding inStream streamBytes
   all-drawn =
       let to : e .at + n ≡ e .at + 6 + length (e .name) = omega arith in
       drawn-is s (core-good c s w) t (chain c s) (right-fits s (core-good c s w) t (stream-right c s w k lk)) (t .size) c (e .at) (e .at + n) (w .parts .room) (w .parts .bones (suc k) (owner-stream c s w k lk)) (omega arith) (omega arith)
-      ∙ rw (to, without-rest r i reading there)
+      ∙ rw (to, without-rest r i reading there, is)
 
   pub removed-is : removed c s k (e .at) n ≡ pulled c s k (e .at) (withoutEntry r e)
-  unfolding removed pulled entriesOf
+  unfolding removed pulled
   removed-is =
-      let long : t .size - n ≡ length (withoutEntry r e) = omega (arith, without-length r i reading there, length-stream c s k) in
+      let long : t .size - n ≡ length (withoutEntry r e) = omega (arith, without-length r i reading there, length-stream c s k, ap length is) in
       rw (all-drawn, long)

@@ -1,6 +1,5 @@
-use mathlib.Core.Path.{_∙_, ap}
+use mathlib.Core.Path.{_∙_}
 use native.Mathlib.Omega.{arith}
-use Rattle.filing.specs.Edited.{removed}
 use Rattle.blocks.proofs.Near.{small-same}
 use Rattle.acts.proofs.Deleting.{size-then}
 use borrow.Author.Needs.{needs}

@@ -1,4 +1,3 @@
-use borrow.Author.Needs.{needs}
 use Rattle.layout.specs.Bytes.{end8}
 use Rattle.acts.proofs.Formatting.{pick-same, pick-other}
 use Rattle.acts.proofs.format.first_block.Statement.{statement}

@@ -1,5 +1,4 @@
 use native.Mathlib.Omega.{arith}
-use Prim.Native.Nat.{_^_}
 use Rattle.blocks.proofs.Near.{small-same}
 use Rattle.filing.proofs.Editing.{taken-out, size-fits}
 use borrow.Author.Needs.{needs}
