@@ -1,42 +1,32 @@
+-- `acts::create::add_descriptor` keeps its promise.
 use native.Mathlib.Omega.{arith}
 use Rattle.blocks.proofs.Near.{small-same}
 use Rattle.acts.proofs.Creating.{slots-low, one-more}
 use borrow.Author.Needs.{needs}
 use Rattle.acts.proofs.create.add_descriptor.Statement.{statement}
 use Rattle.acts.proofs.create.add_descriptor.Tie as tie
-use Rattle.acts.proofs.create.add_descriptor.Reads as reads
-use Rattle.acts.proofs.create.add_descriptor.Lts as lts
-use Rattle.acts.proofs.create.descriptors.Reads as descriptors-reads
-use Rattle.stream.proofs.inside.lay_in_table.Reads as lay-in-table-reads
-use Rattle.stream.proofs.lengths.lengthen_table.Reads as lengthen-table-reads
 
--- src/create.rt:59:9
 descriptors-requires : tie.Need-descriptors-requires
 descriptors-requires c κs = search needs
 
--- src/create.rt:60:5
 lengthen-table-requires : tie.Need-lengthen-table-requires
 lengthen-table-requires c κs = search needs
 
--- src/create.rt:62:31
 mul-lay-in-table : tie.Need-mul-lay-in-table
 mul-lay-in-table c =
     let at-descriptors = c .before .before .before .before .before .descriptors in
     let at-start = c .before .before .before .before .before .before .before .before in
     omega (arith, slots-low _ _ _ (at-descriptors .ensures) (at-start .pre .1))
 
--- src/create.rt:62:27
 add-lay-in-table : tie.Need-add-lay-in-table
 add-lay-in-table c =
     let at-descriptors = c .before .before .before .before .before .descriptors in
     let at-start = c .before .before .before .before .before .before .before .before in
     omega (arith, slots-low _ _ _ (at-descriptors .ensures) (at-start .pre .1))
 
--- src/create.rt:62:39
 slice-aggregate-lay-in-table : tie.Need-slice-aggregate-lay-in-table
 slice-aggregate-lay-in-table c = search needs
 
--- src/create.rt:62:5
 lay-in-table-requires : tie.Need-lay-in-table-requires
 lay-in-table-requires c κs =
     let at-start = c .before .before .before .before .before .before .before .before .before in
@@ -44,11 +34,9 @@ lay-in-table-requires c κs =
     let at-descriptors = c .before .before .before .before .before .before .descriptors in
     (small-same (at-start .pre .0) (at-card .given), omega (arith, slots-low _ _ _ (at-descriptors .ensures) (at-start .pre .1)), omega arith)
 
--- src/create.rt:55:1
 same-length : tie.Need-same-length
 same-length c = search needs
 
--- src/create.rt:55:1
 returns : tie.Need-returns
 returns c =
     let at-descriptors = c .before .before .before .before .before .before .before .before .before .descriptors in

@@ -1,35 +1,24 @@
+-- `acts::create::create` keeps its promise.
 use Rattle.acts.proofs.Creating.{made}
 use borrow.Author.Needs.{needs}
 use Rattle.acts.proofs.create.create.Statement.{statement}
 use Rattle.acts.proofs.create.create.Tie as tie
-use Rattle.acts.proofs.create.create.Reads as reads
-use Rattle.acts.proofs.create.create.Lts as lts
-use Rattle.acts.proofs.create.describe.Reads as describe-reads
-use Rattle.acts.proofs.create.new_index.Reads as new-index-reads
-use Rattle.acts.proofs.read.size.Reads as size-reads
-use Rattle.filing.proofs.edits.append.Reads as append-reads
 
--- src/create.rt:97:9
 new-index-requires : tie.Need-new-index-requires
 new-index-requires c κs = search needs
 
--- src/create.rt:98:9
 size-requires : tie.Need-size-requires
 size-requires c κs = search needs
 
--- src/create.rt:99:5
 describe-requires : tie.Need-describe-requires
 describe-requires c κs = search needs
 
--- src/create.rt:100:5
 append-requires : tie.Need-append-requires
 append-requires c κs = search needs
 
--- src/create.rt:93:1
 same-length : tie.Need-same-length
 same-length c = search needs
 
--- src/create.rt:93:1
 returns : tie.Need-returns
 returns c =
     let at-new-index = c .before .before .before .before .before .before .before .before .before .before .new-index in

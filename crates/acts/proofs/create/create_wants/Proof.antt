@@ -1,3 +1,4 @@
+-- `acts::create::create_wants` keeps its promise.
 use native.Mathlib.Omega.{arith}
 use Rattle.stream.proofs.Sizes.{table-fits}
 use Rattle.filing.proofs.Editing.{size-fits}
@@ -5,43 +6,31 @@ use Rattle.acts.proofs.Creating.{wants-one, wants-two}
 use borrow.Author.Needs.{needs}
 use Rattle.acts.proofs.create.create_wants.Statement.{statement}
 use Rattle.acts.proofs.create.create_wants.Tie as tie
-use Rattle.acts.proofs.create.create_wants.Reads as reads
-use Rattle.acts.proofs.create.create_wants.Lts as lts
-use Rattle.acts.proofs.room.wants.Reads as wants-reads
-use Rattle.stream.proofs.descs.stream.Reads as stream-reads
-use Rattle.stream.proofs.descs.table.Reads as table-reads
-use Rattle.stream.proofs.inside.table_number.Reads as table-number-reads
 
--- src/create.rt:83:9
 stream-requires : tie.Need-stream-requires
 stream-requires c κs = search needs
 
--- src/create.rt:84:28
 add-wants : tie.Need-add-wants
 add-wants c =
     let at-stream = c .before .stream in
     let at-start = c .before .before .before .before in
     omega (arith, size-fits _ _ _ _ _ (at-stream .ensures) (at-start .pre .4))
 
--- src/create.rt:84:28
 add-wants-2 : tie.Need-add-wants-2
 add-wants-2 c =
     let at-stream = c .before .stream in
     let at-start = c .before .before .before .before in
     omega (arith, size-fits _ _ _ _ _ (at-stream .ensures) (at-start .pre .4))
 
--- src/create.rt:84:9
 wants-requires : tie.Need-wants-requires
 wants-requires c κs =
     let at-start = c .before .before .before .before in
     let at-stream = c .before .stream in
     (at-start .pre .0 .least, at-start .pre .0 .most, omega (arith, at-start .pre .2, size-fits _ _ _ _ _ (at-stream .ensures) (at-start .pre .4)))
 
--- src/create.rt:85:8
 table-number-requires : tie.Need-table-number-requires
 table-number-requires c κs = search needs
 
--- src/create.rt:86:9
 returns : tie.Need-returns
 returns c =
     let at-stream = c .before .before .before .before .stream in
@@ -50,29 +39,24 @@ returns c =
     let at-if1 = c .if1 in
     wants-one _ _ _ _ _ (at-stream .ensures) _ (at-wants .ensures .0) _ (at-table-number .ensures) (at-if1 .taken)
 
--- src/create.rt:88:9
 table-requires : tie.Need-table-requires
 table-requires c κs = search needs
 
--- src/create.rt:89:17
 add-wants-3 : tie.Need-add-wants-3
 add-wants-3 c =
     let at-table = c .before .table in
     let at-start = c .before .before .before .before .before .before .before .before .before in
     omega (arith, table-fits _ _ _ (at-table .ensures) (at-start .pre .3))
 
--- src/create.rt:89:5
 wants-requires-2 : tie.Need-wants-requires-2
 wants-requires-2 c κs =
     let at-start = c .before .before .before .before .before .before .before .before .before in
     let at-table = c .before .table in
     (at-start .pre .0 .least, at-start .pre .0 .most, omega (arith, table-fits _ _ _ (at-table .ensures) (at-start .pre .3)))
 
--- src/create.rt:89:5
 add-result : tie.Need-add-result
 add-result c = search needs
 
--- src/create.rt:79:1
 returns-2 : tie.Need-returns-2
 returns-2 c =
     let at-stream = c .before .before .before .before .before .before .before .stream in

@@ -1,22 +1,15 @@
+-- `acts::create::describe` keeps its promise.
 use Rattle.acts.proofs.Creating.{described-more, described-free, first-low}
 use borrow.Author.Needs.{needs}
 use Rattle.acts.proofs.create.describe.Statement.{statement}
 use Rattle.acts.proofs.create.describe.Tie as tie
-use Rattle.acts.proofs.create.describe.Reads as reads
-use Rattle.acts.proofs.create.describe.Lts as lts
-use Rattle.acts.proofs.create.add_descriptor.Reads as add-descriptor-reads
-use Rattle.acts.proofs.create.reuse_descriptor.Reads as reuse-descriptor-reads
-use Rattle.stream.proofs.inside.table_number.Reads as table-number-reads
 
--- src/create.rt:70:9
 table-number-requires : tie.Need-table-number-requires
 table-number-requires c κs = search needs
 
--- src/create.rt:72:9
 add-descriptor-requires : tie.Need-add-descriptor-requires
 add-descriptor-requires c κs = search needs
 
--- src/create.rt:74:9
 reuse-descriptor-requires : tie.Need-reuse-descriptor-requires
 reuse-descriptor-requires c κs =
     let at-start = c .before .before .before .before .before in
@@ -24,11 +17,9 @@ reuse-descriptor-requires c κs =
     let at-if1 = c .before .if1 in
     (at-start .pre .0, first-low _ _ _ (at-table-number .ensures) (at-start .pre .1) (at-if1 .left))
 
--- src/create.rt:66:1
 same-length : tie.Need-same-length
 same-length c = search needs
 
--- src/create.rt:66:1
 returns : tie.Need-returns
 returns c =
     let at-table-number = c .before .before .before .before .before .table-number in
@@ -36,11 +27,9 @@ returns c =
     let at-add-descriptor = c .before .before .add-descriptor in
     described-more _ _ _ (at-table-number .ensures) _ (at-if1 .taken) (at-add-descriptor .ensures)
 
--- src/create.rt:66:1
 same-length-2 : tie.Need-same-length-2
 same-length-2 c = search needs
 
--- src/create.rt:66:1
 returns-2 : tie.Need-returns-2
 returns-2 c =
     let at-table-number = c .before .before .before .before .before .table-number in

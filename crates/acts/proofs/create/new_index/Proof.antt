@@ -1,22 +1,15 @@
+-- `acts::create::new_index` keeps its promise.
 use Rattle.acts.proofs.Creating.{index-more, index-free}
 use borrow.Author.Needs.{needs}
 use Rattle.acts.proofs.create.new_index.Statement.{statement}
 use Rattle.acts.proofs.create.new_index.Tie as tie
-use Rattle.acts.proofs.create.new_index.Reads as reads
-use Rattle.acts.proofs.create.new_index.Lts as lts
-use Rattle.acts.proofs.create.descriptors.Reads as descriptors-reads
-use Rattle.memory.proofs.numbers.minus.Reads as minus-reads
-use Rattle.stream.proofs.inside.table_number.Reads as table-number-reads
 
--- src/create.rt:36:9
 table-number-requires : tie.Need-table-number-requires
 table-number-requires c κs = search needs
 
--- src/create.rt:38:9
 descriptors-requires : tie.Need-descriptors-requires
 descriptors-requires c κs = search needs
 
--- src/create.rt:38:9
 returns : tie.Need-returns
 returns c =
     let at-table-number = c .before .before .table-number in
@@ -24,11 +17,9 @@ returns c =
     let at-descriptors = c .descriptors in
     index-more _ _ _ (at-table-number .ensures) _ (at-if1 .taken) (at-descriptors .ensures)
 
--- src/create.rt:40:5
 minus-requires : tie.Need-minus-requires
 minus-requires c κs = search needs
 
--- src/create.rt:32:1
 returns-2 : tie.Need-returns-2
 returns-2 c =
     let at-table-number = c .before .before .table-number in

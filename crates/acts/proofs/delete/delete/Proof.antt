@@ -1,3 +1,4 @@
+-- `acts::delete::delete` keeps its promise.
 use mathlib.Core.Path.{_∙_}
 use native.Mathlib.Omega.{arith}
 use Rattle.blocks.proofs.Near.{small-same}
@@ -5,28 +6,19 @@ use Rattle.acts.proofs.Deleting.{size-then}
 use borrow.Author.Needs.{needs}
 use Rattle.acts.proofs.delete.delete.Statement.{statement}
 use Rattle.acts.proofs.delete.delete.Tie as tie
-use Rattle.acts.proofs.delete.delete.Reads as reads
-use Rattle.acts.proofs.delete.delete.Lts as lts
-use Rattle.acts.proofs.delete.undescribe.Reads as undescribe-reads
-use Rattle.filing.proofs.edits.remove.Reads as remove-reads
 
--- src/delete.rt:38:28
 slice-aggregate-undescribe : tie.Need-slice-aggregate-undescribe
 slice-aggregate-undescribe c = search needs
 
--- src/delete.rt:38:5
 undescribe-requires : tie.Need-undescribe-requires
 undescribe-requires c κs = search needs
 
--- src/delete.rt:39:28
 add-remove : tie.Need-add-remove
 add-remove c = search needs
 
--- src/delete.rt:39:35
 slice-aggregate-remove : tie.Need-slice-aggregate-remove
 slice-aggregate-remove c = search needs
 
--- src/delete.rt:39:5
 remove-requires : tie.Need-remove-requires
 remove-requires c κs =
     let at-start = c .before .before .before .before .before .before .before .before .before in
@@ -34,11 +26,9 @@ remove-requires c κs =
     let at-undescribe = c .before .before .before .before .before .undescribe in
     (small-same (at-start .pre .0) (at-card .given), at-start .pre .1, size-then _ _ _ _ _ _ (at-undescribe .ensures) (at-start .pre .4), omega (arith, at-start .pre .3), search needs)
 
--- src/delete.rt:33:1
 same-length : tie.Need-same-length
 same-length c = search needs
 
--- src/delete.rt:33:1
 returns : tie.Need-returns
 returns c =
     let at-remove = c .before .before .before .remove in

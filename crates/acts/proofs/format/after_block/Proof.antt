@@ -1,26 +1,21 @@
+-- `acts::format::after_block` keeps its promise.
 use Rattle.layout.specs.Bytes.{end4}
 use Rattle.acts.proofs.Formatting.{pick-same, pick-other}
 use borrow.Author.Needs.{needs}
 use Rattle.acts.proofs.format.after_block.Statement.{statement}
 use Rattle.acts.proofs.format.after_block.Tie as tie
-use Rattle.acts.proofs.format.after_block.Reads as reads
-use Rattle.acts.proofs.format.after_block.Lts as lts
 
--- src/format.rt:118:8
 add-if1 : tie.Need-add-if1
 add-if1 c = search needs
 
--- src/format.rt:119:9
 returns : tie.Need-returns
 returns c =
     let at-if1 = c .if1 in
     pick-same _ _ end4 _ (at-if1 .taken)
 
--- src/format.rt:121:5
 add-result : tie.Need-add-result
 add-result c = search needs
 
--- src/format.rt:114:1
 returns-2 : tie.Need-returns-2
 returns-2 c =
     let at-if1 = c .if1 in

@@ -1,17 +1,14 @@
+-- `acts::format::first_block` keeps its promise.
 use Rattle.layout.specs.Bytes.{end8}
 use Rattle.acts.proofs.Formatting.{pick-same, pick-other}
 use Rattle.acts.proofs.format.first_block.Statement.{statement}
 use Rattle.acts.proofs.format.first_block.Tie as tie
-use Rattle.acts.proofs.format.first_block.Reads as reads
-use Rattle.acts.proofs.format.first_block.Lts as lts
 
--- src/format.rt:90:9
 returns : tie.Need-returns
 returns c =
     let at-if1 = c .if1 in
     pick-same _ 1 end8 1 (at-if1 .taken)
 
--- src/format.rt:86:1
 returns-2 : tie.Need-returns-2
 returns-2 c =
     let at-if1 = c .if1 in

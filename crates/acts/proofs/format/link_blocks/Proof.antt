@@ -1,3 +1,4 @@
+-- `acts::format::link_blocks` keeps its promise.
 use borrow.Author.Needs.{needs}
 use mathlib.Core.Path.{_≡_, refl, sym, _∙_}
 use Prim.Native.Nat.{_-_, _≤_}
@@ -8,10 +9,6 @@ use Rattle.blocks.proofs.Near.{small-same}
 use Rattle.acts.proofs.Formatting.{link-step, link-end}
 use Rattle.acts.proofs.format.link_blocks.Statement.{statement}
 use Rattle.acts.proofs.format.link_blocks.Tie as tie
-use Rattle.acts.proofs.format.link_blocks.Reads as reads
-use Rattle.acts.proofs.format.link_blocks.Lts as lts
-use Rattle.acts.proofs.format.after_block.Reads as after-block-reads
-use Rattle.blocks.proofs.places.put_slot.Reads as put-slot-reads
 
 abbrev Inv-loop : tie.InvT-loop
 Inv-loop card₀ s count b₀ card b = (1 ≤ b) × (length card ≡ length card₀) × (linksFrom (s .count - b) b s card ≡ linksFrom (s .count - 1) 1 s card₀)
@@ -19,30 +16,24 @@ Inv-loop card₀ s count b₀ card b = (1 ≤ b) × (length card ≡ length card
 abbrev μ-loop : tie.MeasureT-loop
 μ-loop card₀ s count b₀ card b = s .count - b
 
--- src/format.rt:131:5
 loop-holds : tie.Need-loop-holds Inv-loop μ-loop
 loop-holds c = (omega arith, refl, refl)
 
--- src/format.rt:132:33
 after-block-requires : tie.Need-after-block-requires Inv-loop μ-loop
 after-block-requires c κs = search needs
 
--- src/format.rt:132:9
 put-slot-requires : tie.Need-put-slot-requires Inv-loop μ-loop
 put-slot-requires c κs =
     let at-start = c .before .before .before .before .before in
     let at-loop = c .before .before .before .loop in
     (small-same (at-start .pre) (at-loop .inv .1), omega arith)
 
--- src/format.rt:133:9
 add-b : tie.Need-add-b Inv-loop μ-loop
 add-b c = search needs
 
--- src/format.rt:131:5
 loop-less : tie.Need-loop-less Inv-loop μ-loop
 loop-less c = search needs
 
--- src/format.rt:131:5
 loop-again : tie.Need-loop-again Inv-loop μ-loop
 loop-again c =
     let at-card = c .before .card in
@@ -53,11 +44,9 @@ loop-again c =
     let at-put-slot = c .before .before .put-slot in
     (omega arith, at-card .given ∙ at-loop .inv .1, link-step (at-start .args .s) _ _ _ _ (at-loop-test .taken) (at-after-block .ensures) (at-put-slot .ensures) ∙ at-loop .inv .2)
 
--- src/format.rt:125:1
 same-length : tie.Need-same-length Inv-loop μ-loop
 same-length c = search needs
 
--- src/format.rt:125:1
 returns : tie.Need-returns Inv-loop μ-loop
 returns c =
     let at-start = c .before .before .before in

@@ -1,38 +1,27 @@
+-- `acts::format::put_front` keeps its promise.
 use Rattle.acts.proofs.Formatting.{front-put}
 use borrow.Author.Needs.{needs}
 use Rattle.acts.proofs.format.put_front.Statement.{statement}
 use Rattle.acts.proofs.format.put_front.Tie as tie
-use Rattle.acts.proofs.format.put_front.Reads as reads
-use Rattle.acts.proofs.format.put_front.Lts as lts
-use Rattle.acts.proofs.format.first_block.Reads as first-block-reads
-use Rattle.acts.proofs.format.put_first.Reads as put-first-reads
-use Rattle.memory.proofs.bytes.put_number.Reads as put-number-reads
 
--- src/format.rt:101:5
 put-first-requires : tie.Need-put-first-requires
 put-first-requires c κs = search needs
 
--- src/format.rt:102:5
 put-number-requires : tie.Need-put-number-requires
 put-number-requires c κs = search needs
 
--- src/format.rt:103:5
 put-number-requires-2 : tie.Need-put-number-requires-2
 put-number-requires-2 c κs = search needs
 
--- src/format.rt:104:29
 first-block-requires : tie.Need-first-block-requires
 first-block-requires c κs = search needs
 
--- src/format.rt:104:5
 put-number-requires-3 : tie.Need-put-number-requires-3
 put-number-requires-3 c κs = search needs
 
--- src/format.rt:97:1
 same-length : tie.Need-same-length
 same-length c = search needs
 
--- src/format.rt:97:1
 returns : tie.Need-returns
 returns c =
     let at-start = c .before .before .before .before .before .before .before .before .before .before .before .before .before .before .before .before .before .before in

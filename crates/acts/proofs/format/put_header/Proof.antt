@@ -1,47 +1,33 @@
+-- `acts::format::put_header` keeps its promise.
 use Rattle.acts.proofs.Formatting.{header-put}
 use borrow.Author.Needs.{needs}
 use Rattle.acts.proofs.format.put_header.Statement.{statement}
 use Rattle.acts.proofs.format.put_header.Tie as tie
-use Rattle.acts.proofs.format.put_header.Reads as reads
-use Rattle.acts.proofs.format.put_header.Lts as lts
-use Rattle.acts.proofs.format.put_fourth.Reads as put-fourth-reads
-use Rattle.acts.proofs.format.put_front.Reads as put-front-reads
-use Rattle.acts.proofs.format.put_third.Reads as put-third-reads
-use Rattle.memory.proofs.bytes.put_number.Reads as put-number-reads
 
--- src/format.rt:113:5
 put-front-requires : tie.Need-put-front-requires
 put-front-requires c κs = search needs
 
--- src/format.rt:114:5
 put-third-requires : tie.Need-put-third-requires
 put-third-requires c κs = search needs
 
--- src/format.rt:115:5
 put-number-requires : tie.Need-put-number-requires
 put-number-requires c κs = search needs
 
--- src/format.rt:116:5
 put-number-requires-2 : tie.Need-put-number-requires-2
 put-number-requires-2 c κs = search needs
 
--- src/format.rt:117:5
 put-number-requires-3 : tie.Need-put-number-requires-3
 put-number-requires-3 c κs = search needs
 
--- src/format.rt:118:5
 put-number-requires-4 : tie.Need-put-number-requires-4
 put-number-requires-4 c κs = search needs
 
--- src/format.rt:119:5
 put-fourth-requires : tie.Need-put-fourth-requires
 put-fourth-requires c κs = search needs
 
--- src/format.rt:108:1
 same-length : tie.Need-same-length
 same-length c = search needs
 
--- src/format.rt:108:1
 returns : tie.Need-returns
 returns c =
     let at-put-front = c .before .before .before .before .before .before .before .before .before .before .before .before .before .before .before .before .before .before .before .before .before .before .before .before .before .before .put-front in

@@ -1,27 +1,20 @@
+-- `acts::list::list` keeps its promise.
 use native.Mathlib.Omega.{arith}
 use Rattle.filing.proofs.Editing.{size-fits}
 use Rattle.acts.proofs.Naming.{row-is, name-here, name-none}
 use borrow.Author.Needs.{needs}
 use Rattle.acts.proofs.list.list.Statement.{statement}
 use Rattle.acts.proofs.list.list.Tie as tie
-use Rattle.acts.proofs.list.list.Reads as reads
-use Rattle.acts.proofs.list.list.Lts as lts
-use Rattle.filing.proofs.listing.nth_entry.Reads as nth-entry-reads
-use Rattle.stream.proofs.descs.stream.Reads as stream-reads
-use Rattle.stream.proofs.gather.gather_stream.Reads as gather-stream-reads
 
--- src/list.rt:21:9
 stream-requires : tie.Need-stream-requires
 stream-requires c κs = search needs
 
--- src/list.rt:22:9
 nth-entry-requires : tie.Need-nth-entry-requires
 nth-entry-requires c κs =
     let at-start = c .before .before .before in
     let at-stream = c .stream in
     (at-start .pre .0, size-fits _ _ _ _ _ (at-stream .ensures) (at-start .pre .2))
 
--- src/list.rt:24:35
 add-gather-stream : tie.Need-add-gather-stream
 add-gather-stream c =
     let at-nth-entry = c .before .before .nth-entry in
@@ -29,15 +22,12 @@ add-gather-stream c =
     let at-start = c .before .before .before .before .before .before in
     omega (arith, at-nth-entry .ensures .1, size-fits _ _ _ _ _ (at-stream .ensures) (at-start .pre .2))
 
--- src/list.rt:24:9
 gather-stream-requires : tie.Need-gather-stream-requires
 gather-stream-requires c κs = search needs
 
--- src/list.rt:17:1
 same-length : tie.Need-same-length
 same-length c = search needs
 
--- src/list.rt:17:1
 returns : tie.Need-returns
 returns c =
     let at-stream = c .before .before .before .before .before .before .before .stream in
@@ -46,7 +36,6 @@ returns c =
     let at-gather-stream = c .before .before .gather-stream in
     (row-is _ _ _ _ _ (at-stream .ensures) _ (at-nth-entry .ensures .0), name-here _ _ _ _ _ (at-stream .ensures) _ (at-nth-entry .ensures .0) _ _ (at-if1 .taken) (at-gather-stream .ensures))
 
--- src/list.rt:17:1
 returns-2 : tie.Need-returns-2
 returns-2 c =
     let at-stream = c .before .before .stream in

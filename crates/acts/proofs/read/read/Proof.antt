@@ -1,36 +1,25 @@
+-- `acts::read::read` keeps its promise.
 use Rattle.acts.proofs.Reading.{read-bytes, read-count}
 use lib.ListN.{length}
 use borrow.Author.Needs.{needs}
 use Rattle.acts.proofs.read.read.Statement.{statement}
 use Rattle.acts.proofs.read.read.Tie as tie
-use Rattle.acts.proofs.read.read.Reads as reads
-use Rattle.acts.proofs.read.read.Lts as lts
-use Rattle.memory.proofs.numbers.least.Reads as least-reads
-use Rattle.memory.proofs.numbers.minus.Reads as minus-reads
-use Rattle.stream.proofs.descs.stream.Reads as stream-reads
-use Rattle.stream.proofs.gather.gather_stream.Reads as gather-stream-reads
 
--- src/read.rt:27:9
 stream-requires : tie.Need-stream-requires
 stream-requires c κs = search needs
 
--- src/read.rt:29:5
 gather-stream-requires : tie.Need-gather-stream-requires
 gather-stream-requires c κs = search needs
 
--- src/read.rt:30:14
 minus-requires : tie.Need-minus-requires
 minus-requires c κs = search needs
 
--- src/read.rt:30:5
 least-requires : tie.Need-least-requires
 least-requires c κs = search needs
 
--- src/read.rt:23:1
 same-length : tie.Need-same-length
 same-length c = search needs
 
--- src/read.rt:23:1
 returns : tie.Need-returns
 returns c =
     let at-start = c .before .before .before .before .before .before .before .before .before in

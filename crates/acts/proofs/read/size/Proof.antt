@@ -1,16 +1,12 @@
+-- `acts::read::size` keeps its promise.
 use Rattle.acts.proofs.Reading.{size-is}
 use borrow.Author.Needs.{needs}
 use Rattle.acts.proofs.read.size.Statement.{statement}
 use Rattle.acts.proofs.read.size.Tie as tie
-use Rattle.acts.proofs.read.size.Reads as reads
-use Rattle.acts.proofs.read.size.Lts as lts
-use Rattle.stream.proofs.descs.stream.Reads as stream-reads
 
--- src/read.rt:19:5
 stream-requires : tie.Need-stream-requires
 stream-requires c κs = search needs
 
--- src/read.rt:15:1
 returns : tie.Need-returns
 returns c =
     let at-stream = c .stream in

@@ -1,28 +1,20 @@
+-- `acts::room::wants` keeps its promise.
 use native.Mathlib.Omega.{arith}
 use Rattle.blocks.proofs.Near.{fan-four}
 use Rattle.acts.proofs.Reading.{data-low, sum-low, wants-is}
 use borrow.Author.Needs.{needs}
 use Rattle.acts.proofs.room.wants.Statement.{statement}
 use Rattle.acts.proofs.room.wants.Tie as tie
-use Rattle.acts.proofs.room.wants.Reads as reads
-use Rattle.acts.proofs.room.wants.Lts as lts
-use Rattle.blocks.proofs.pyramid.needed.Reads as needed-reads
-use Rattle.blocks.proofs.pyramid.up.Reads as up-reads
-use Rattle.memory.proofs.numbers.minus.Reads as minus-reads
 
--- src/room.rt:39:13
 div-d : tie.Need-div-d
 div-d c = search needs
 
--- src/room.rt:40:22
 up-requires : tie.Need-up-requires
 up-requires c κs = search needs
 
--- src/room.rt:40:9
 minus-requires : tie.Need-minus-requires
 minus-requires c κs = search needs
 
--- src/room.rt:41:21
 add-needed : tie.Need-add-needed
 add-needed c =
     let at-start = c .before .before .before in
@@ -30,7 +22,6 @@ add-needed c =
     let at-minus = c .minus in
     omega (arith, sum-low (at-start .args .s) (at-start .pre .0) (at-start .pre .1) (at-start .args .t) (omega arith) _ _ _ (at-start .pre .2) (at-up .ensures .0) (at-minus .ensures))
 
--- src/room.rt:41:11
 needed-requires : tie.Need-needed-requires
 needed-requires c κs =
     let at-start = c .before .before .before in
@@ -38,7 +29,6 @@ needed-requires c κs =
     let at-minus = c .minus in
     (fan-four _ (at-start .pre .0), omega (arith, sum-low (at-start .args .s) (at-start .pre .0) (at-start .pre .1) (at-start .args .t) (omega arith) _ _ _ (at-start .pre .2) (at-up .ensures .0) (at-minus .ensures)))
 
--- src/room.rt:41:32
 needed-requires-2 : tie.Need-needed-requires-2
 needed-requires-2 c κs =
     let at-start = c .before .before .before .before in
@@ -46,11 +36,9 @@ needed-requires-2 c κs =
     let at-minus = c .before .minus in
     (fan-four _ (at-start .pre .0), omega (arith, data-low (at-start .args .s) (at-start .pre .0) (at-start .pre .1) (at-start .args .t) (omega arith) _ _ _ (at-start .pre .2) (at-up .ensures .0) (at-minus .ensures)))
 
--- src/room.rt:41:5
 minus-requires-2 : tie.Need-minus-requires-2
 minus-requires-2 c κs = search needs
 
--- src/room.rt:33:1
 returns : tie.Need-returns
 returns c =
     let at-start = c .before .before .before .before .before .before in

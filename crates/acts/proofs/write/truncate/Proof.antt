@@ -1,40 +1,30 @@
+-- `acts::write::truncate` keeps its promise.
 use Rattle.acts.proofs.Writing.{cut-none, cut-some}
 use borrow.Author.Needs.{needs}
 use Rattle.acts.proofs.write.truncate.Statement.{statement}
 use Rattle.acts.proofs.write.truncate.Tie as tie
-use Rattle.acts.proofs.write.truncate.Reads as reads
-use Rattle.acts.proofs.write.truncate.Lts as lts
-use Rattle.stream.proofs.descs.stream.Reads as stream-reads
-use Rattle.stream.proofs.lengths.shorten.Reads as shorten-reads
 
--- src/write.rt:31:9
 stream-requires : tie.Need-stream-requires
 stream-requires c κs = search needs
 
--- src/write.rt:33:9
 same-length : tie.Need-same-length
 same-length c = search needs
 
--- src/write.rt:33:9
 returns : tie.Need-returns
 returns c =
     let at-stream = c .before .before .stream in
     let at-if1 = c .if1 in
     cut-none _ _ _ _ (at-stream .ensures) _ (at-if1 .taken)
 
--- src/write.rt:36:28
 slice-aggregate-shorten : tie.Need-slice-aggregate-shorten
 slice-aggregate-shorten c = search needs
 
--- src/write.rt:36:5
 shorten-requires : tie.Need-shorten-requires
 shorten-requires c κs = search needs
 
--- src/write.rt:27:1
 same-length-2 : tie.Need-same-length-2
 same-length-2 c = search needs
 
--- src/write.rt:27:1
 returns-2 : tie.Need-returns-2
 returns-2 c =
     let at-stream = c .before .before .before .before .before .before .before .before .stream in

@@ -1,47 +1,34 @@
+-- `filing::edits::append` keeps its promise.
 use mathlib.Core.Path.{refl}
 use Rattle.filing.proofs.Editing.{appended}
 use borrow.Author.Needs.{needs}
 use Rattle.filing.proofs.edits.append.Statement.{statement}
 use Rattle.filing.proofs.edits.append.Tie as tie
-use Rattle.filing.proofs.edits.append.Reads as reads
-use Rattle.filing.proofs.edits.append.Lts as lts
-use Rattle.filing.proofs.edits.put_entry.Reads as put-entry-reads
-use Rattle.stream.proofs.inside.lay_in_stream.Reads as lay-in-stream-reads
-use Rattle.stream.proofs.lengths.lengthen.Reads as lengthen-reads
 
--- src/edits.rt:38:13
 add-n : tie.Need-add-n
 add-n c = search needs
 
--- src/edits.rt:40:15
 slice-aggregate-put-entry : tie.Need-slice-aggregate-put-entry
 slice-aggregate-put-entry c = search needs
 
--- src/edits.rt:40:5
 put-entry-requires : tie.Need-put-entry-requires
 put-entry-requires c κs = search needs
 
--- src/edits.rt:41:26
 add-lengthen : tie.Need-add-lengthen
 add-lengthen c = search needs
 
--- src/edits.rt:41:5
 lengthen-requires : tie.Need-lengthen-requires
 lengthen-requires c κs = search needs
 
--- src/edits.rt:42:34
 slice-aggregate-lay-in-stream : tie.Need-slice-aggregate-lay-in-stream
 slice-aggregate-lay-in-stream c = search needs
 
--- src/edits.rt:42:5
 lay-in-stream-requires : tie.Need-lay-in-stream-requires
 lay-in-stream-requires c κs = search needs
 
--- src/edits.rt:34:1
 same-length : tie.Need-same-length
 same-length c = search needs
 
--- src/edits.rt:34:1
 returns : tie.Need-returns
 returns c =
     let at-start = c .before .before .before .before .before .before .before .before .before .before .before .before .before .before in

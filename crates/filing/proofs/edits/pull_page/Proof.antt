@@ -1,42 +1,30 @@
+-- `filing::edits::pull_page` keeps its promise.
 use Rattle.filing.proofs.Editing.{page-pulled}
 use borrow.Author.Needs.{needs}
 use Rattle.filing.proofs.edits.pull_page.Statement.{statement}
 use Rattle.filing.proofs.edits.pull_page.Tie as tie
-use Rattle.filing.proofs.edits.pull_page.Reads as reads
-use Rattle.filing.proofs.edits.pull_page.Lts as lts
-use Rattle.blocks.proofs.pyramid.height.Reads as height-reads
-use Rattle.stream.proofs.gather.gather_stream.Reads as gather-stream-reads
-use Rattle.stream.proofs.lay.lay.Reads as lay-reads
 
--- src/edits.rt:50:32
 div-height : tie.Need-div-height
 div-height c = search needs
 
--- src/edits.rt:50:9
 height-requires : tie.Need-height-requires
 height-requires c κs = search needs
 
--- src/edits.rt:52:34
 slice-aggregate-gather-stream : tie.Need-slice-aggregate-gather-stream
 slice-aggregate-gather-stream c = search needs
 
--- src/edits.rt:52:5
 gather-stream-requires : tie.Need-gather-stream-requires
 gather-stream-requires c κs = search needs
 
--- src/edits.rt:53:31
 slice-aggregate-lay : tie.Need-slice-aggregate-lay
 slice-aggregate-lay c = search needs
 
--- src/edits.rt:53:5
 lay-requires : tie.Need-lay-requires
 lay-requires c κs = search needs
 
--- src/edits.rt:46:1
 same-length : tie.Need-same-length
 same-length c = search needs
 
--- src/edits.rt:46:1
 returns : tie.Need-returns
 returns c =
     let at-start = c .before .before .before .before .before .before .before .before .before .before .before .before .before .before in

@@ -1,36 +1,26 @@
+-- `filing::edits::remove` keeps its promise.
 use native.Mathlib.Omega.{arith}
 use Rattle.blocks.proofs.Near.{small-same}
 use Rattle.filing.proofs.Editing.{taken-out, size-fits}
 use borrow.Author.Needs.{needs}
 use Rattle.filing.proofs.edits.remove.Statement.{statement}
 use Rattle.filing.proofs.edits.remove.Tie as tie
-use Rattle.filing.proofs.edits.remove.Reads as reads
-use Rattle.filing.proofs.edits.remove.Lts as lts
-use Rattle.filing.proofs.edits.pull.Reads as pull-reads
-use Rattle.memory.proofs.numbers.minus.Reads as minus-reads
-use Rattle.stream.proofs.descs.stream.Reads as stream-reads
-use Rattle.stream.proofs.lengths.shorten.Reads as shorten-reads
 
--- src/edits.rt:77:9
 stream-requires : tie.Need-stream-requires
 stream-requires c κs = search needs
 
--- src/edits.rt:78:26
 add-pull : tie.Need-add-pull
 add-pull c = search needs
 
--- src/edits.rt:78:5
 pull-requires : tie.Need-pull-requires
 pull-requires c κs =
     let at-start = c .before .before .before .before .before in
     let at-stream = c .before .stream in
     (at-start .pre .0, size-fits _ _ _ _ _ (at-stream .ensures) (at-start .pre .2), omega arith)
 
--- src/edits.rt:79:25
 minus-requires : tie.Need-minus-requires
 minus-requires c κs = search needs
 
--- src/edits.rt:79:5
 shorten-requires : tie.Need-shorten-requires
 shorten-requires c κs =
     let at-start = c .before .before .before .before .before .before .before .before .before .before .before in
@@ -39,15 +29,12 @@ shorten-requires c κs =
     let at-stream = c .before .before .before .before .before .before .before .stream in
     (small-same (at-start .pre .0) (at-card .given), at-start .pre .1, omega (arith, at-minus .ensures, size-fits _ _ _ _ _ (at-stream .ensures) (at-start .pre .2)), at-start .pre .4)
 
--- src/edits.rt:73:1
 same-length : tie.Need-same-length
 same-length c = search needs
 
--- src/edits.rt:73:1
 same-length-2 : tie.Need-same-length-2
 same-length-2 c = search needs
 
--- src/edits.rt:73:1
 returns : tie.Need-returns
 returns c =
     let at-stream = c .before .before .before .before .before .before .before .before .before .before .before .before .stream in

@@ -1,3 +1,4 @@
+-- `filing::listing::nth_entry` keeps its promise.
 use borrow.Author.Needs.{needs}
 use mathlib.Core.Path.{_≡_, sym, _∙_}
 use lib.ListN.{length}
@@ -10,11 +11,6 @@ use Rattle.filing.specs.Located.{numbered}
 use Rattle.filing.proofs.Finding.{entries-start, nth-here, nth-next, nth-none}
 use Rattle.filing.proofs.listing.nth_entry.Statement.{statement}
 use Rattle.filing.proofs.listing.nth_entry.Tie as tie
-use Rattle.filing.proofs.listing.nth_entry.Reads as reads
-use Rattle.filing.proofs.listing.nth_entry.Lts as lts
-use Rattle.filing.proofs.entries.read_head.Reads as read-head-reads
-use Rattle.memory.proofs.numbers.least.Reads as least-reads
-use Rattle.memory.proofs.numbers.minus.Reads as minus-reads
 
 abbrev Inv-loop : tie.InvT-loop
 Inv-loop card s t n size at₀ left₀ at left = (at < 2 ^ 63) × (numbered (entriesFrom (length (contents card s (t .top) (dataOf s t) (t .size))) (contents card s (t .top) (dataOf s t) (t .size)) at) left ≡ numbered (entries (contents card s (t .top) (dataOf s t) (t .size))) n)
@@ -22,27 +18,21 @@ Inv-loop card s t n size at₀ left₀ at left = (at < 2 ^ 63) × (numbered (ent
 abbrev μ-loop : tie.MeasureT-loop
 μ-loop card s t n size at₀ left₀ at left = t .size - at
 
--- src/listing.rt:30:5
 loop-holds : tie.Need-loop-holds Inv-loop μ-loop
 loop-holds c = (omega arith, rw (entries-start _))
 
--- src/listing.rt:31:13
 read-head-requires : tie.Need-read-head-requires Inv-loop μ-loop
 read-head-requires c κs = search needs
 
--- src/listing.rt:36:53
 add-minus : tie.Need-add-minus Inv-loop μ-loop
 add-minus c = search needs
 
--- src/listing.rt:36:41
 minus-requires : tie.Need-minus-requires Inv-loop μ-loop
 minus-requires c κs = search needs
 
--- src/listing.rt:36:25
 least-requires : tie.Need-least-requires Inv-loop μ-loop
 least-requires c κs = search needs
 
--- src/listing.rt:33:13
 returns : tie.Need-returns Inv-loop μ-loop
 returns c =
     let at-loop-test = c .before .before .before .before .loop-test in
@@ -53,23 +43,18 @@ returns c =
     let at-loop = c .before .before .before .before .before .loop in
     (nth-here _ _ _ _ (rw length-contents (at-loop-test .taken)) (at-read-head .ensures .0) (at-read-head .ensures .1) _ _ _ (at-if1 .taken) (rw length-contents (at-minus .ensures)) (at-least .ensures) ∙ at-loop .inv .1, omega (arith, at-loop-test .taken))
 
--- src/listing.rt:40:14
 add-at : tie.Need-add-at Inv-loop μ-loop
 add-at c = search needs
 
--- src/listing.rt:40:14
 add-at-2 : tie.Need-add-at-2 Inv-loop μ-loop
 add-at-2 c = search needs
 
--- src/listing.rt:41:9
 sub-left : tie.Need-sub-left Inv-loop μ-loop
 sub-left c = search needs
 
--- src/listing.rt:30:5
 loop-less : tie.Need-loop-less Inv-loop μ-loop
 loop-less c = search needs
 
--- src/listing.rt:30:5
 loop-again : tie.Need-loop-again Inv-loop μ-loop
 loop-again c =
     let at-loop-test = c .before .before .before .loop-test in
@@ -79,7 +64,6 @@ loop-again c =
     let at-loop = c .before .before .before .before .loop in
     (omega (arith, at-loop-test .taken, at-start .pre .1, at-read-head .ensures .2), nth-next _ _ _ _ (rw length-contents (at-loop-test .taken)) (at-read-head .ensures .0) (at-read-head .ensures .1) _ (at-if1 .left) ∙ at-loop .inv .1)
 
--- src/listing.rt:23:1
 returns-2 : tie.Need-returns-2 Inv-loop μ-loop
 returns-2 c =
     let at-start = c .before .before .before in
