@@ -8,9 +8,12 @@ use native.Mathlib.Decide.{decLe}
 use native.Mathlib.Omega.{arith}
 use lib.ListN.{length, take, drop, length-take, length-drop}
 use Rattle.layout.specs.Bytes.{num, same}
-use Rattle.layout.specs.Filing.{Entry, nameLength, entryAt, entriesFrom, entries}
+use Rattle.layout.specs.Streams.{dataOf, contents, stream, streamBytes}
+use Rattle.layout.specs.Filing.{Entry, nameLength, entryAt, entriesFrom, entries, entriesOf}
 use Rattle.laws.proofs.Picks.{leb-yes, leb-no}
 use Rattle.filing.specs.Located.{located, numbered}
+use Rattle.layout.specs.declared.Shape.{Shape}
+use Rattle.layout.specs.declared.Desc.{Desc}
 use Rattle.filing.specs.declared.entries.Found.{Found}
 use Rattle.filing.specs.declared.listing.Row.{Row}
 
@@ -73,3 +76,9 @@ module _ (r : List ℕ) where
   pub nth-none : (at n m : ℕ) (f : Row) → numbered (entriesFrom (length r) r at) n ≡ f → m ≡ length r → m ≤ at → record { index = 0; at = 0; length = 0; there = false } ≡ f
   unfolding numbered
   nth-none at n m f t e h = rw (entries-stop at (omega arith)) at t
+
+-- ---- in a directory
+
+pub looked-up : (c name : List ℕ) (s : Shape) (k : ℕ) (t : Desc) (f : Found) → t ≡ stream c s k → f ≡ located (entries (contents c s (t .top) (dataOf s t) (t .size))) name 0 → f ≡ located (entriesOf c s k) name 0
+unfolding entriesOf streamBytes
+looked-up c name s k t f e g = rw e at g
