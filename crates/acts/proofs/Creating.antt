@@ -1,11 +1,14 @@
 -- A new stream: its index, its descriptor, the blocks that it wants, its entry.
 use mathlib.Core.Path.{_≡_, sym, ap, _∙_}
+use mathlib.Core.Bool.{false}
 use mathlib.Core.List.{List}
 use Prim.Native.Nat.{ℕ, _+_, _-_, _*_, _/_, _^_, _<_}
 use native.Mathlib.Nat.{zero-add, div-mul-le-self}
 use native.Mathlib.Omega.{arith}
 use lib.ListN.{length, replicate}
+use lib.Dec.{leb}
 use borrow.Author.Tests.{eq-eqb, ne-eqb}
+use Rattle.layout.specs.Limits.{mostStreams}
 use Rattle.layout.specs.Bytes.{pick, num, bytes, end8}
 use Rattle.layout.specs.Streams.{table, tableBytes, offset, slots, stream, streamBytes, inTable, wants, tableLengthened}
 use Rattle.layout.specs.Filing.{withEntry}
@@ -15,6 +18,7 @@ use Rattle.laws.proofs.State.{length-table, length-stream}
 use Rattle.filing.specs.Edited.{entered}
 use Rattle.filing.proofs.Drawing.{entered-is}
 use Rattle.acts.specs.Fits.{Fits}
+use Rattle.acts.specs.Full.{fullTable}
 use Rattle.layout.specs.declared.Shape.{Shape}
 use Rattle.layout.specs.declared.Desc.{Desc}
 
@@ -36,6 +40,14 @@ module _ (c : List ℕ) (s : Shape) where
 
     pub index-free : (m : ℕ) → (first ≡ end8 → ⊥) → m ≡ first - 8 → m / 25 ≡ newIndex tb
     index-free m h f = rw (ne-eqb (num 8 tb 0) end8 (λ u. h (e ∙ u)), f, e)
+
+    -- ---- whether one can be had
+
+    pub not-full : (first ≡ end8 → ⊥) → false ≡ fullTable tb
+    not-full h = rw (ne-eqb (num 8 tb 0) end8 (λ u. h (e ∙ u)))
+
+    pub full-by-count : (m n : ℕ) → first ≡ end8 → m ≡ mostStreams → n ≡ slots tb → leb m n ≡ fullTable tb
+    full-by-count m n h f g = rw (eq-eqb (num 8 tb 0) end8 (sym e ∙ h), f, g)
 
     -- ---- its descriptor
 

@@ -5,3 +5,4 @@ pub mod Creating
 pub mod Deleting
 pub mod Naming
 pub mod Sound
+pub mod Rooted

@@ -5,29 +5,33 @@ use mathlib.Core.Bool.{not}
 use mathlib.Core.List.{List, [], _∷_}
 use Prim.Native.Nat.{ℕ, zero, suc, _+_, _*_, _^_, _-_, min, _≤_, _<_}
 use native.Mathlib.Nat.{mul-le-mul, pow-le-pow-right, div-add-mod'}
-use native.Mathlib.Decide.{decLe}
+use native.Mathlib.Decide.{decLe, ℕ-discrete}
 use native.Mathlib.Omega.{arith}
 use lib.ListN.{length, getD}
-use lib.Dec.{ltb}
-use Rattle.layout.specs.Bytes.{num, end8}
+use lib.Dec.{leb, ltb}
+use Rattle.layout.specs.Limits.{mostStreams}
+use Rattle.layout.specs.Bytes.{num, end8, run}
 use Rattle.layout.specs.Blocks.{walk, next, firstFree, chain, enough}
-use Rattle.layout.specs.Streams.{table, tableBytes, firstDesc, descChain, stream, streamBytes, shortened}
+use Rattle.layout.specs.Streams.{table, tableBytes, offset, slots, live, lives, firstDesc, descChain, stream, streamBytes, shortened}
 use Rattle.layout.specs.Filing.{Entry, entriesOf, nothing}
 use Rattle.layout.specs.Header.{headLength, shapeOf, shiftOf}
 use Rattle.layout.specs.Calls.{rootOf, undescribed, deleted}
 use Rattle.layout.specs.Ranges.{Small}
 use Rattle.laws.proofs.Picks.{leb-yes, leb-no, eqb-yes, eqb-no}
-use Rattle.laws.proofs.Lists.{In, in-map}
+use Rattle.laws.proofs.Lists.{In, in-map, in-run, run-in, length-run, run-distinct}
 use Rattle.laws.proofs.Removal.{in-at}
+use Rattle.laws.proofs.Sets.{distinct-le}
 use Rattle.laws.proofs.Links.{Links}
+use Rattle.laws.proofs.Frees.{Frees}
 use Rattle.laws.proofs.Entries.{indices, entry-ends}
-use Rattle.laws.proofs.Lives.{lives-in}
+use Rattle.laws.proofs.Lives.{lives-in, in-lives, lives-distinct, those-few}
 use Rattle.laws.proofs.State.{livesOf, Right, Core, Whole, right-fits, length-stream}
 use Rattle.laws.proofs.Cores.{core-good, size-few, count-few, core-frees}
 use Rattle.laws.proofs.Edits.{Edit, edit-free}
 use Rattle.laws.proofs.Moves as moves
 use Rattle.laws.proofs.Undescribe.{Undescribed, undescribe}
 use Rattle.filing.proofs.Drawing.{removed-is}
+use Rattle.acts.specs.Full.{fullTable}
 use Rattle.acts.specs.Fits.{Fits}
 use Rattle.acts.specs.Deleted.{deletedAt}
 use Rattle.layout.specs.declared.Shape.{Shape}
@@ -71,6 +75,45 @@ module _ (c : List ℕ) (s : Shape) (w : Core c s) where
 
   pub live-low : (k : ℕ) → In k (livesOf c s) → (k < 2 ^ 56) × (stream c s k .size < 2 ^ 61)
   live-low k i = (omega (arith, lives-in (tableBytes c s) k i .0, w .few), omega (arith, right-low (stream c s k) (moves.stream-right c s w k i)))
+
+-- ---- whether the table can take no more streams
+
+module _ (c : List ℕ) (s : Shape) (w : Core c s) where
+  abbrev tb : List ℕ
+  tb = tableBytes c s
+
+  abbrev frees : Frees tb (slots tb) (descChain tb)
+  frees = core-frees c s w
+
+  none-on : (o : ℕ) (xs : List ℕ) → Links (num 8 tb) o xs → o ≡ end8 → (x : ℕ) → In x xs → ⊥
+  none-on o (y ∷ xs) l e x i = l .1 e
+
+  -- a chain with no link: all live
+  all-live : firstDesc tb ≡ end8 → slots tb ≤ length (lives tb)
+  all-live e = rw length-run at (distinct-le (run 0 (slots tb)) (lives tb) (run-distinct 0 (slots tb)) (λ k i.
+      let l : k < slots tb = omega (arith, run-in 0 (slots tb) k i) in
+      in-lives tb k l (λ z. none-on (firstDesc tb) (descChain tb) (frees .links) e (offset k) (frees .all k l z))))
+
+  -- one with a link: one of them is not
+  one-on : (o : ℕ) (xs : List ℕ) → Links (num 8 tb) o xs → o ≢ end8 → In o xs
+  one-on o [] l n = absurd (n l)
+  one-on o (x ∷ xs) l n = inl (l .0)
+
+  one-less : firstDesc tb ≢ end8 → length (lives tb) < slots tb
+  one-less n =
+      let r = frees .gone (firstDesc tb) (one-on (firstDesc tb) (descChain tb) (frees .links) n) in
+      rw length-run at (distinct-le (r .0 ∷ lives tb) (run 0 (slots tb)) (λ i. lives-in tb (r .0) i .1 (r .2), lives-distinct tb)
+      (λ k i. elim i [ inl z ↦ in-run 0 (slots tb) k (omega arith) (omega (arith, r .1)) | inr j ↦ in-run 0 (slots tb) k (omega arith) (omega (arith, lives-in tb k j .0)) ]))
+
+  few-live : length (lives tb) ≤ slots tb
+  unfolding lives
+  few-live = rw length-run at (those-few (live tb) (run 0 (slots tb)))
+
+  pub full-is : fullTable tb ≡ leb mostStreams (length (lives tb))
+  full-is = elim (ℕ-discrete (firstDesc tb) end8) [
+    | yes e ↦ (let n : length (lives tb) ≡ slots tb = omega (arith, all-live e, few-live) in rw (eqb-yes e, n))
+    | no n ↦ rw (eqb-no n, leb-no {a = mostStreams} {b = length (lives tb)} (omega (arith, one-less n, w .few)))
+  ]
 
 -- ---- a sound card, and an entry of its root
 

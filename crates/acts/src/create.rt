@@ -3,6 +3,7 @@ use crate::read::size;
 use crate::room::wants;
 use filing::edits::append;
 use layout::Shape;
+use layout::limits::most_streams;
 use memory::numbers::minus;
 use stream::descs::stream;
 use stream::descs::table;
@@ -18,6 +19,7 @@ ghost use Rattle.layout.specs.Streams.{table, tableBytes, offset, slots, stream
 ghost use Rattle.layout.specs.Calls.{newIndex, described, createWantsIn, createdIn};
 ghost use Rattle.layout.specs.Ranges.{Small};
 ghost use Rattle.acts.specs.Fits.{Fits};
+ghost use Rattle.acts.specs.Full.{fullTable};
 
 // How many descriptors the table has.
 fn descriptors(card: &[u8], s: Shape) -> usize
@@ -38,6 +40,17 @@ pub fn new_index(card: &[u8], s: Shape) -> usize
         return descriptors(card, s);
     }
     minus(first, 8) / 25
+}
+
+// Whether the table can take no more streams.
+pub fn full(card: &[u8], s: Shape) -> bool
+    requires { ⌜ Small (now card) s ⌝ }
+    ensures { λ r. ⌜ r ≡ fullTable (tableBytes (now (card .entry)) s) ⌝ }
+{
+    if table_number(card, s, 0) != 0xffff_ffff_ffff_ffff {
+        return false;
+    }
+    most_streams() <= descriptors(card, s)
 }
 
 // The free descriptor at `first` comes off the chain and becomes all zero.
