@@ -1,4 +1,4 @@
--- Numbers that fit, on every card that passes its check (proofs/Sound `fits`).
+-- Numbers that fit, on every card that passes its check (proofs/Fitting `fits`).
 use mathlib.Core.Logic.{_≢_}
 use Prim.Native.Nat.{ℕ, _^_, _<_}
 use mathlib.Core.List.{List}
