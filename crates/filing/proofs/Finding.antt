@@ -39,10 +39,10 @@ module _ (r : List ℕ) where
   unfolding entriesFrom
   opened g at h = rw (leb-no {a = length r} {b = at} h)
 
-  entries-step : (at : ℕ) → at < length r → entriesFrom (length r) r at ≡ entryAt r at ∷ entriesFrom (length r) r (at + 6 + nameLength r at)
+  pub entries-step : (at : ℕ) → at < length r → entriesFrom (length r) r at ≡ entryAt r at ∷ entriesFrom (length r) r (at + 6 + nameLength r at)
   entries-step at h = entries-bound (length r) (suc (length r)) at (omega arith) (omega arith) ∙ opened (length r) at h
 
-  entries-stop : (at : ℕ) → length r ≤ at → entriesFrom (length r) r at ≡ []
+  pub entries-stop : (at : ℕ) → length r ≤ at → entriesFrom (length r) r at ≡ []
   unfolding entriesFrom
   entries-stop at h = entries-bound (length r) 0 at (omega arith) (omega arith)
 

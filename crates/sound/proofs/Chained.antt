@@ -1,34 +1,35 @@
 -- The free chain, marked: the loop along it, and the definition's list.
-use mathlib.Core.Path.{_≡_, refl, ap, _∙_}
+use mathlib.Core.Path.{_≡_, refl, sym, ap, _∙_}
 use mathlib.Core.Bool.{Bool, true, false}
 use mathlib.Core.List.{List, [], _∷_, _++_}
 use Prim.Native.Nat.{ℕ, zero, suc, _+_, _-_, _≤_, _<_}
 use native.Mathlib.Numerals.{sub-one}
 use native.Mathlib.Omega.{arith}
-use lib.ListN.{length, getD, set, replicate}
+use lib.ListN.{length, getD, set}
 use lib.Dec.{eqb}
 use borrow.Author.Tests.{eq-eqb, ne-eqb}
-use Rattle.layout.specs.Bytes.{both, over, end8, pick}
-use Rattle.layout.specs.Marks.{fresh, markOk, markSet, fallingIn}
+use Rattle.layout.specs.Bytes.{end8, pick, separate}
+use Rattle.layout.specs.Marks.{fresh, fallingIn}
 use Rattle.layout.specs.Blocks.{walk, next, firstFree, chain}
 use Rattle.layout.specs.Sound.{used, rule7}
 use Rattle.laws.proofs.Marking.{mark-separate, mark-count}
-use Rattle.blocks.proofs.Walking.{Marked, Rest, cleared, part-goes, one-marked, rest-goes, rest-stops, rest-ends}
+use Rattle.blocks.proofs.Walking.{Marked, Rest, part-goes, one-marked, rest-goes, rest-stops, rest-ends}
 use Rattle.blocks.proofs.Links.{chain-start}
+use Rattle.sound.specs.Used.{InUse}
 use Rattle.layout.specs.declared.Shape.{Shape}
 
 module _ (next : ℕ → ℕ) where
-  list-end : (left b : ℕ) → b ≡ end8 → walk left next b ≡ []
+  pub list-end : (left b : ℕ) → b ≡ end8 → walk left next b ≡ []
   unfolding walk
   list-end zero b e = refl
   list-end (suc left) b e = rw (eq-eqb b end8 e)
 
-  list-out : (left b : ℕ) → left ≤ 0 → walk left next b ≡ []
+  pub list-out : (left b : ℕ) → left ≤ 0 → walk left next b ≡ []
   unfolding walk
   list-out zero b e = refl
   list-out (suc left) b e = absurd (omega arith)
 
-  list-step : (left b b′ : ℕ) → 0 < left → (b ≡ end8 → ⊥) → b′ ≡ next b → walk left next b ≡ (b ∷ []) ++ walk (left - 1) next b′
+  pub list-step : (left b b′ : ℕ) → 0 < left → (b ≡ end8 → ⊥) → b′ ≡ next b → walk left next b ≡ (b ∷ []) ++ walk (left - 1) next b′
   unfolding walk
   list-step (suc left) b b′ h e f = rw (f, sub-one (suc left), ne-eqb b end8 e)
 
@@ -76,27 +77,23 @@ count-done m (suc left) found n h e = absurd (omega arith)
 
 -- ---- rule 7
 
-module _ (n : ℕ) (m m′ bs : List ℕ) (r : Bool) (p : Marked n m bs r m′) where
-  pub left-over : r ≡ false → false ≡ both (markOk n m bs) (eqb (length (fallingIn n (markSet n m bs))) n)
-  left-over f = rw (← p .0, f)
-
-  pub none-over : (k : ℕ) → r ≡ true → k ≡ length (fallingIn n m′) → eqb k n ≡ both (markOk n m bs) (eqb (length (fallingIn n (markSet n m bs))) n)
-  none-over k f e = rw (← p .0, f, e, p .1)
-
 -- with the blocks in use marked before, it is the definition's
-pub rule7-is : (c : List ℕ) (s : Shape) (m m₁ m₂ : List ℕ) (r : Bool) → s .count ≤ length m → m₁ ≡ over m 0 (replicate (s .count) 0) → Marked (s .count) m₁ (used c s) true m₂
-    → r ≡ both (markOk (s .count) m₂ (chain c s)) (eqb (length (fallingIn (s .count) (markSet (s .count) m₂ (chain c s)))) (s .count)) → r ≡ rule7 c s
-unfolding rule7
-rule7-is c s m m₁ m₂ r long a p e =
-    let n = s .count in
-    let all = used c s ++ chain c s in
-    let y = cleared m m₁ n long a in
-    let q : Marked n m₁ all (markOk n m₂ (chain c s)) (markSet n m₂ (chain c s)) = part-goes n m₁ m₂ _ (used c s) (chain c s) true _ p refl (refl, refl) in
-    e ∙ rw (q .0, q .1) (by (markOk n m₁ all) refl (mark-count n m₁ (y .0) (y .1) all) ∙ rw (mark-separate n m₁ (y .0) (y .1) all))
-  where
-    by : (t : Bool) → markOk (s .count) m₁ (used c s ++ chain c s) ≡ t
-        → (markOk (s .count) m₁ (used c s ++ chain c s) ≡ true → length (fallingIn (s .count) (markSet (s .count) m₁ (used c s ++ chain c s))) ≡ length (used c s ++ chain c s))
-        → both (markOk (s .count) m₁ (used c s ++ chain c s)) (eqb (length (fallingIn (s .count) (markSet (s .count) m₁ (used c s ++ chain c s)))) (s .count))
-        ≡ both (markOk (s .count) m₁ (used c s ++ chain c s)) (eqb (length (used c s ++ chain c s)) (s .count))
-    by true e f = rw (f e)
-    by false e f = rw e
+module _ (c : List ℕ) (s : Shape) (m m′ : List ℕ) (r : Bool) (inUse : InUse c s m) (p : Marked (s .count) m (chain c s) r m′) where
+  abbrev all : List ℕ
+  all = used c s ++ chain c s
+
+  all-marked : Marked (s .count) (inUse .start) all r m′
+  all-marked = part-goes (s .count) (inUse .start) m m′ (used c s) (chain c s) true r (sym (inUse .ok), inUse .marks) refl p
+
+  all-ok : r ≡ separate (s .count) all
+  all-ok = all-marked .0 ∙ mark-separate (s .count) (inUse .start) (inUse .long) (inUse .zeros) all
+
+  pub left-over : r ≡ false → false ≡ rule7 c s
+  unfolding rule7
+  left-over f = rw (← all-ok, f)
+
+  pub none-over : (k : ℕ) → r ≡ true → k ≡ length (fallingIn (s .count) m′) → eqb k (s .count) ≡ rule7 c s
+  unfolding rule7
+  none-over k f e =
+      let a : k ≡ length all = e ∙ rw (all-marked .1) (mark-count (s .count) (inUse .start) (inUse .long) (inUse .zeros) all (sym (all-marked .0) ∙ f)) in
+      rw (← all-ok, f, a)

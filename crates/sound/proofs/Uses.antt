@@ -8,13 +8,12 @@ use native.Mathlib.Omega.{arith}
 use lib.ListN.{length, replicate}
 use borrow.Author.Tests.{eq-eqb, ne-eqb}
 use Rattle.layout.specs.Bytes.{over, end8, run, those, join, pick}
-use Rattle.layout.specs.Marks.{markOk}
 use Rattle.layout.specs.Sound.{used, rule6}
 use Rattle.laws.proofs.Marking.{mark-separate}
 use Rattle.layout.specs.Blocks.{pyramid}
 use Rattle.layout.specs.Streams.{dataOf, descIn, descOf, dead, live, lives, slots, stream, streamBlocks, table, tableBlocks, tableBytes}
 use Rattle.blocks.proofs.Walking.{Marked, Rest, cleared, none-marked, part-stops, part-goes, rest-goes, rest-stops, rest-ends}
-use Rattle.sound.specs.Used.{blocksOf, usedFrom}
+use Rattle.sound.specs.Used.{blocksOf, usedFrom, InUse}
 use Rattle.layout.specs.declared.Shape.{Shape}
 use Rattle.layout.specs.declared.Desc.{Desc}
 
@@ -77,7 +76,7 @@ join-pick f true x xs = refl
 join-pick f false x xs = refl
 
 module _ (c : List ℕ) (s : Shape) (tab : List ℕ) (agree : (k : ℕ) → descOf tab k ≡ stream c s k) where
-  pub used-is : (from n : ℕ) → usedFrom c s tab from n ≡ join (streamBlocks c s) (those (live (tableBytes c s)) (run from n))
+  used-is : (from n : ℕ) → usedFrom c s tab from n ≡ join (streamBlocks c s) (those (live (tableBytes c s)) (run from n))
   unfolding usedFrom those run join blocksOf live dead streamBlocks stream
   used-is from zero = refl
   used-is from (suc n) = rw (agree from, used-is (from + 1) n) (sym (join-pick (streamBlocks c s) (live (tableBytes c s) from) from (those (live (tableBytes c s)) (run (from + 1) n))))
@@ -86,9 +85,16 @@ module _ (c : List ℕ) (s : Shape) (tab : List ℕ) (agree : (k : ℕ) → desc
   unfolding used lives
   used-all n e = rw (used-is 0 n, e)
 
-  pub rule6-is : (n : ℕ) (m : List ℕ) (r : Bool) → n ≡ slots (tableBytes c s) → s .count ≤ length m
-      → r ≡ markOk (s .count) (over m 0 (replicate (s .count) 0)) (tableBlocks c s ++ usedFrom c s tab 0 n) → r ≡ rule6 c s
-  unfolding rule6
-  rule6-is n m r e long f =
-      let y = cleared m _ (s .count) long refl in
-      f ∙ rw (used-all n e) (mark-separate (s .count) _ (y .0) (y .1) (used c s))
+  module _ (n : ℕ) (m m′ : List ℕ) (r : Bool) (e : n ≡ slots (tableBytes c s)) (long : s .count ≤ length m)
+      (p : Marked (s .count) (over m 0 (replicate (s .count) 0)) (tableBlocks c s ++ usedFrom c s tab 0 n) r m′) where
+    used-marked : Marked (s .count) (over m 0 (replicate (s .count) 0)) (used c s) r m′
+    used-marked = rw (used-all n e) at p
+
+    pub rule6-is : r ≡ rule6 c s
+    unfolding rule6
+    rule6-is = let y = cleared m _ (s .count) long refl in used-marked .0 ∙ mark-separate (s .count) _ (y .0) (y .1) (used c s)
+
+    pub in-use : r ≡ true → InUse c s m′
+    in-use f =
+        let y = cleared m _ (s .count) long refl in
+        record { start = over m 0 (replicate (s .count) 0); long = y .0; zeros = y .1; ok = sym (used-marked .0) ∙ f; marks = used-marked .1 }

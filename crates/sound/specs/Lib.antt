@@ -1,1 +1,5 @@
 pub mod Used
+pub mod Compared
+pub mod OnPage
+pub mod Buckets
+pub mod Rooted

@@ -7,14 +7,14 @@ use memory::bytes::byte;
 ghost use mathlib.Core.Path.{_≡_};
 ghost use Prim.Native.Nat.{_≤_};
 ghost use lib.ListN.{length};
-ghost use lib.Dec.{eqb};
-ghost use Rattle.layout.specs.Bytes.{both};
 ghost use Rattle.layout.specs.Marks.{markOk, markSet, fallingIn};
 ghost use Rattle.layout.specs.Blocks.{chain};
+ghost use Rattle.layout.specs.Sound.{rule7};
 ghost use Rattle.layout.specs.Ranges.{Small};
+ghost use Rattle.sound.specs.Used.{InUse};
 
 // Marks the blocks of the free chain, or finds one that it can't mark.
-pub fn mark_chain(card: &[u8], s: Shape, marks: &mut [u8]) -> bool
+fn mark_chain(card: &[u8], s: Shape, marks: &mut [u8]) -> bool
     requires { ⌜ Small (now card) s ⌝ }
     ensures { λ r. ⌜ (r ≡ markOk (s .count) (now (marks .entry)) (chain (now (card .entry)) s)) × (now (marks .exit) ≡ markSet (s .count) (now (marks .entry)) (chain (now (card .entry)) s)) ⌝ }
 {
@@ -51,8 +51,8 @@ fn count_marks(marks: &[u8], n: usize) -> usize
 
 // Rule 7, on marks that hold the blocks in use: the chain's blocks are apart from them, and then no block is left over.
 pub fn rule7(card: &[u8], s: Shape, marks: &mut [u8]) -> bool
-    requires { ⌜ Small (now card) s ⌝ }
-    ensures { λ r. ⌜ (r ≡ both (markOk (s .count) (now (marks .entry)) (chain (now (card .entry)) s)) (eqb (length (fallingIn (s .count) (markSet (s .count) (now (marks .entry)) (chain (now (card .entry)) s)))) (s .count))) × (now (marks .exit) ≡ markSet (s .count) (now (marks .entry)) (chain (now (card .entry)) s)) ⌝ }
+    requires { ⌜ Small (now card) s × InUse (now card) s (now marks) ⌝ }
+    ensures { λ r. ⌜ r ≡ rule7 (now (card .entry)) s ⌝ }
 {
     if !mark_chain(&*card, s, marks) {
         return false;

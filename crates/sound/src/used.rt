@@ -1,4 +1,5 @@
 // Rule 6: the blocks in use, marked stream by stream.
+use crate::spare::descriptors;
 use blocks::marks::mark_surplus;
 use layout::Desc;
 use layout::Shape;
@@ -6,14 +7,17 @@ use memory::runs::clear;
 use stream::descs::descriptor;
 use stream::descs::table;
 ghost use mathlib.Core.Path.{_≡_};
+ghost use mathlib.Core.Bool.{true};
 ghost use mathlib.Core.List.{_++_};
 ghost use Prim.Native.Nat.{_≤_};
-ghost use lib.ListN.{replicate};
+ghost use lib.ListN.{length, replicate};
 ghost use Rattle.layout.specs.Bytes.{over};
-ghost use Rattle.layout.specs.Streams.{tableBlocks};
+ghost use Rattle.layout.specs.Streams.{tableBlocks, tableBytes};
 ghost use Rattle.layout.specs.Marks.{markOk, markSet};
+ghost use Rattle.layout.specs.Sound.{rule4, rule6};
 ghost use Rattle.layout.specs.Ranges.{Small};
-ghost use Rattle.sound.specs.Used.{blocksOf, usedFrom};
+ghost use Rattle.sound.specs.OnPage.{Reads};
+ghost use Rattle.sound.specs.Used.{blocksOf, usedFrom, InUse};
 
 // Marks a stream's blocks, by its descriptor; a free one has none.
 fn mark_one(card: &[u8], s: Shape, t: Desc, marks: &mut [u8]) -> bool
@@ -27,7 +31,7 @@ fn mark_one(card: &[u8], s: Shape, t: Desc, marks: &mut [u8]) -> bool
 }
 
 // Marks the blocks of the first `n` streams, by the table's bytes.
-pub fn mark_streams(card: &[u8], s: Shape, tab: &[u8], n: usize, marks: &mut [u8]) -> bool
+fn mark_streams(card: &[u8], s: Shape, tab: &[u8], n: usize, marks: &mut [u8]) -> bool
     requires { ⌜ Small (now card) s × (n ≤ 65536) ⌝ }
     ensures { λ r. ⌜ (r ≡ markOk (s .count) (now (marks .entry)) (usedFrom (now (card .entry)) s (now (tab .entry)) 0 n)) × (now (marks .exit) ≡ markSet (s .count) (now (marks .entry)) (usedFrom (now (card .entry)) s (now (tab .entry)) 0 n)) ⌝ }
 {
@@ -44,7 +48,7 @@ pub fn mark_streams(card: &[u8], s: Shape, tab: &[u8], n: usize, marks: &mut [u8
 }
 
 // Clears the marks and marks all blocks in use: the table's, and those of its first `n` streams.
-pub fn mark_used(card: &[u8], s: Shape, tab: &[u8], n: usize, marks: &mut [u8]) -> bool
+fn mark_used(card: &[u8], s: Shape, tab: &[u8], n: usize, marks: &mut [u8]) -> bool
     requires { ⌜ Small (now card) s × (n ≤ 65536) ⌝ }
     ensures { λ r. ⌜ (r ≡ markOk (s .count) (over (now (marks .entry)) 0 (replicate (s .count) 0)) (tableBlocks (now (card .entry)) s ++ usedFrom (now (card .entry)) s (now (tab .entry)) 0 n)) × (now (marks .exit) ≡ markSet (s .count) (over (now (marks .entry)) 0 (replicate (s .count) 0)) (tableBlocks (now (card .entry)) s ++ usedFrom (now (card .entry)) s (now (tab .entry)) 0 n)) ⌝ }
 {
@@ -55,4 +59,13 @@ pub fn mark_used(card: &[u8], s: Shape, tab: &[u8], n: usize, marks: &mut [u8]) 
         return false;
     }
     mark_streams(&*card, s, &*tab, n, marks)
+}
+
+// Rule 6: no block is in two places, and none is out of range. Then the marks hold the blocks in use, for rule 7.
+pub fn rule6(card: &[u8], s: Shape, tab: &[u8], marks: &mut [u8]) -> bool
+    requires { ⌜ Small (now card) s × (rule4 (now card) s ≡ true) × Reads (now tab) (tableBytes (now card) s) × (s .count ≤ length (now marks)) ⌝ }
+    ensures { λ r. ⌜ (r ≡ rule6 (now (card .entry)) s) × (r ≡ true → InUse (now (card .entry)) s (now (marks .exit))) ⌝ }
+{
+    let n = descriptors(&*card, s);
+    mark_used(&*card, s, &*tab, n, marks)
 }

@@ -41,7 +41,7 @@ num-shift (suc n) l l′ p q h =
     let b = num-shift n l l′ (p + 1) (q + 1) (λ i k. let e : p + 1 + i ≡ p + (1 + i) = omega arith in let f : q + 1 + i ≡ q + (1 + i) = omega arith in rw (e, f) (h (1 + i) (omega arith))) in
     omega (arith, a, b)
 
-page-byte : (w : ℕ) (l : List ℕ) (x i : ℕ) → i < w → getD (over (replicate w 0) 0 (take w (drop x l))) i 0 ≡ getD l (x + i) 0
+pub page-byte : (w : ℕ) (l : List ℕ) (x i : ℕ) → i < w → getD (over (replicate w 0) 0 (take w (drop x l))) i 0 ≡ getD l (x + i) 0
 page-byte w l x i h =
     let vs = take w (drop x l) in
     let n = length-take w (drop x l) in

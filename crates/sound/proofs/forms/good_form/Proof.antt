@@ -1,6 +1,6 @@
 -- `sound::forms::good_form` keeps its promise.
-use Rattle.sound.proofs.Shaped.{form-free, form-live}
 use borrow.Author.Needs.{needs}
+use Rattle.sound.proofs.Shaped.{form-free, form-live}
 use Rattle.sound.proofs.forms.good_form.Statement.{statement}
 use Rattle.sound.proofs.forms.good_form.Tie as tie
 

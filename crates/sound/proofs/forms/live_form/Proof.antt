@@ -1,7 +1,7 @@
 -- `sound::forms::live_form` keeps its promise.
 use borrow.Author.Tests.{not-true, not-false}
-use Rattle.sound.proofs.Shaped.{live-wrong, live-empty, live-some}
 use borrow.Author.Needs.{needs}
+use Rattle.sound.proofs.Shaped.{live-wrong, live-empty, live-some}
 use Rattle.sound.proofs.forms.live_form.Statement.{statement}
 use Rattle.sound.proofs.forms.live_form.Tie as tie
 

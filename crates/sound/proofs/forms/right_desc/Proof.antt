@@ -1,6 +1,6 @@
 -- `sound::forms::right_desc` keeps its promise.
-use Rattle.sound.proofs.Shaped.{right-flags, right-many, right-other, right-last}
 use borrow.Author.Needs.{needs}
+use Rattle.sound.proofs.Shaped.{right-flags, right-many, right-other, right-last}
 use Rattle.sound.proofs.forms.right_desc.Statement.{statement}
 use Rattle.sound.proofs.forms.right_desc.Tie as tie
 

@@ -1,7 +1,7 @@
 -- `sound::header::rule2` keeps its promise.
 use borrow.Author.Tests.{not-true, not-false}
-use Rattle.sound.proofs.Heading.{fixed-first, fixed-second, fixed-third, fixed-last}
 use borrow.Author.Needs.{needs}
+use Rattle.sound.proofs.Heading.{fixed-first, fixed-second, fixed-third, fixed-last}
 use Rattle.sound.proofs.header.rule2.Statement.{statement}
 use Rattle.sound.proofs.header.rule2.Tie as tie
 

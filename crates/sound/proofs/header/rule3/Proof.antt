@@ -1,7 +1,7 @@
 -- `sound::header::rule3` keeps its promise.
+use borrow.Author.Needs.{needs}
 use native.Mathlib.Omega.{arith}
 use Rattle.sound.proofs.Heading.{power-some, shift-low, shift-high, rest-part, rest-none, rest-last}
-use borrow.Author.Needs.{needs}
 use Rattle.sound.proofs.header.rule3.Statement.{statement}
 use Rattle.sound.proofs.header.rule3.Tie as tie
 

@@ -1,7 +1,7 @@
 -- `sound::header::shape` keeps its promise.
+use borrow.Author.Needs.{needs}
 use native.Mathlib.Omega.{arith}
 use Rattle.sound.proofs.Heading.{power-some, shape-is}
-use borrow.Author.Needs.{needs}
 use Rattle.sound.proofs.header.shape.Statement.{statement}
 use Rattle.sound.proofs.header.shape.Tie as tie
 

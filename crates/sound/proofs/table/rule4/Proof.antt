@@ -1,9 +1,9 @@
 -- `sound::table::rule4` keeps its promise.
 use borrow.Author.Tests.{not-true, not-false}
+use borrow.Author.Needs.{needs}
 use native.Mathlib.Omega.{arith}
 use Rattle.stream.proofs.Sizes.{data-fits}
 use Rattle.sound.proofs.Shaped.{table-short, table-long, table-part, table-wrong, table-right}
-use borrow.Author.Needs.{needs}
 use Rattle.sound.proofs.table.rule4.Statement.{statement}
 use Rattle.sound.proofs.table.rule4.Tie as tie
 

@@ -1,8 +1,8 @@
 -- `sound::used::mark_one` keeps its promise.
+use borrow.Author.Needs.{needs}
 use native.Mathlib.Omega.{arith}
 use Rattle.stream.proofs.Sizes.{data-fits}
 use Rattle.sound.proofs.Uses.{stream-free, stream-used}
-use borrow.Author.Needs.{needs}
 use Rattle.sound.proofs.used.mark_one.Statement.{statement}
 use Rattle.sound.proofs.used.mark_one.Tie as tie
 

@@ -1,9 +1,9 @@
 -- `sound::used::mark_used` keeps its promise.
 use borrow.Author.Tests.{not-true, not-false}
+use borrow.Author.Needs.{needs}
 use native.Mathlib.Omega.{arith}
 use Rattle.stream.proofs.Sizes.{data-fits}
 use Rattle.sound.proofs.Uses.{all-stops, all-goes}
-use borrow.Author.Needs.{needs}
 use Rattle.sound.proofs.used.mark_used.Statement.{statement}
 use Rattle.sound.proofs.used.mark_used.Tie as tie
 
