@@ -2,15 +2,20 @@
 use mathlib.Core.Path.{_≡_, refl, ap, _∙_}
 use mathlib.Core.Bool.{Bool, true, false}
 use mathlib.Core.List.{List, [], _∷_}
-use Prim.Native.Nat.{ℕ, zero, suc, _+_, _-_, _≤_, _<_}
+use Prim.Native.Nat.{ℕ, zero, suc, _+_, _-_, min, _≤_, _<_}
+use native.Mathlib.Numerals.{sub-one}
 use native.Mathlib.Decide.{decLe}
 use native.Mathlib.Omega.{arith}
-use lib.ListN.{length, take, drop}
+use lib.ListN.{length, take, drop, length-take, length-drop}
 use Rattle.layout.specs.Bytes.{num, same}
-use Rattle.layout.specs.Filing.{Entry, nameLength, entryAt, entriesFrom, entries}
+use Rattle.layout.specs.Streams.{dataOf, contents, stream, streamBytes}
+use Rattle.layout.specs.Filing.{Entry, nameLength, entryAt, entriesFrom, entries, entriesOf}
 use Rattle.laws.proofs.Picks.{leb-yes, leb-no}
-use Rattle.filing.specs.Located.{located}
+use Rattle.filing.specs.Located.{located, numbered}
+use Rattle.layout.specs.declared.Shape.{Shape}
+use Rattle.layout.specs.declared.Desc.{Desc}
 use Rattle.filing.specs.declared.entries.Found.{Found}
+use Rattle.filing.specs.declared.listing.Row.{Row}
 
 -- ---- the search
 
@@ -53,3 +58,27 @@ module _ (r : List ℕ) where
   pub find-none : (name : List ℕ) (at n m : ℕ) (f : Found) → located (entriesFrom (length r) r at) name n ≡ f → m ≡ length r → m ≤ at → record { number = n; index = 0; at = 0; known = false } ≡ f
   unfolding located
   find-none name at n m f t e h = rw (entries-stop at (omega arith)) at t
+
+  -- ---- by number
+
+  module _ (at i l : ℕ) (inside : at < length r) (e : i ≡ num 4 r at) (f : l ≡ nameLength r at) where
+    pub nth-here : (n k m : ℕ) → n ≡ 0 → k ≡ length r - (at + 6) → m ≡ min l k → record { index = i; at = at; length = m; there = true } ≡ numbered (entriesFrom (length r) r at) n
+    unfolding numbered
+    nth-here n k m z u v =
+        let w : m ≡ length (take (nameLength r at) (drop (at + 6) r)) = rw (length-take, length-drop, ← f) (omega arith) in
+        rw (entries-step at inside, z) (λ j. record { index = e j; at = at; length = w j; there = true })
+
+    pub nth-next : (n : ℕ) → (n ≡ 0 → ⊥) → numbered (entriesFrom (length r) r (at + 6 + l)) (n - 1) ≡ numbered (entriesFrom (length r) r at) n
+    unfolding numbered
+    nth-next zero z = absurd (z refl)
+    nth-next (suc n) z = rw (entries-step at inside, sub-one (suc n), f)
+
+  pub nth-none : (at n m : ℕ) (f : Row) → numbered (entriesFrom (length r) r at) n ≡ f → m ≡ length r → m ≤ at → record { index = 0; at = 0; length = 0; there = false } ≡ f
+  unfolding numbered
+  nth-none at n m f t e h = rw (entries-stop at (omega arith)) at t
+
+-- ---- in a directory
+
+pub looked-up : (c name : List ℕ) (s : Shape) (k : ℕ) (t : Desc) (f : Found) → t ≡ stream c s k → f ≡ located (entries (contents c s (t .top) (dataOf s t) (t .size))) name 0 → f ≡ located (entriesOf c s k) name 0
+unfolding entriesOf streamBytes
+looked-up c name s k t f e g = rw e at g

@@ -1,2 +1,5 @@
 pub mod Naming
 pub mod Finding
+pub mod Editing
+pub mod Drawing
+pub mod Answers

@@ -3,13 +3,14 @@ use crate::names::name_is;
 use layout::Desc;
 use layout::Shape;
 use memory::bytes::number;
+use stream::descs::stream;
 use stream::gather::gather_stream;
 ghost use mathlib.Core.Path.{_≡_};
 ghost use Prim.Native.Nat.{_+_, _^_, _<_, _≤_};
 ghost use lib.ListN.{length};
 ghost use Rattle.layout.specs.Bytes.{num};
-ghost use Rattle.layout.specs.Streams.{dataOf, contents};
-ghost use Rattle.layout.specs.Filing.{nameLength, entries};
+ghost use Rattle.layout.specs.Streams.{dataOf, contents, stream};
+ghost use Rattle.layout.specs.Filing.{nameLength, entries, entriesOf};
 ghost use Rattle.layout.specs.Ranges.{Small};
 ghost use Rattle.filing.specs.Located.{located};
 
@@ -67,4 +68,12 @@ pub fn find(card: &[u8], s: Shape, t: Desc, name: &[u8]) -> Found
         at: 0,
         known: false,
     }
+}
+
+// The name's place in directory `k`.
+pub fn look_up(card: &[u8], s: Shape, k: usize, name: &[u8]) -> Found
+    requires { ⌜ Small (now card) s × (k < 2 ^ 56) × (length (now name) ≤ 64) × (stream (now card) s k .size < 2 ^ 62) ⌝ }
+    ensures { λ r. ⌜ r ≡ located (entriesOf (now (card .entry)) s k) (now (name .entry)) 0 ⌝ }
+{
+    find(card, s, stream(card, s, k), name)
 }

@@ -1,4 +1,6 @@
-// Directories: names and entries, read where they stand in a stream.
+// Directories: names and entries, read where they stand in a stream; entries appended and removed.
 
+pub mod edits;
 pub mod entries;
+pub mod listing;
 pub mod names;

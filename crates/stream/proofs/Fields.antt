@@ -6,12 +6,12 @@ use native.Mathlib.Nat.{add-zero}
 use native.Mathlib.Decide.{decLt}
 use native.Mathlib.Omega.{arith}
 use lib.ListN.{length, getD, take, drop, replicate, length-append, length-take, length-drop, length-replicate, getD-replicate, List·getD-eq-default}
-use lib.Seq.{getD-take, getD-drop}
+use lib.Seq.{getD-take, getD-drop, take-all}
 use Rattle.layout.specs.Bytes.{num, bytes, over, put}
 use Rattle.layout.specs.Pyramid.{height}
 use Rattle.layout.specs.Blocks.{fan}
-use Rattle.layout.specs.Streams.{descIn, dataOf, fields, contents, laid, table, tableBytes, offset, descOf, stream, inTable, descSet}
-use Rattle.laws.proofs.ByteLaws.{length-bytes, over-append, over-in, over-out, take-over}
+use Rattle.layout.specs.Streams.{descIn, dataOf, fields, contents, laid, table, tableBytes, offset, descOf, stream, inTable, inStream, descSet}
+use Rattle.laws.proofs.ByteLaws.{length-bytes, length-over, over-append, over-in, over-out, take-over}
 use Rattle.laws.proofs.Descs.{length-fields}
 use Rattle.layout.specs.declared.Shape.{Shape}
 use Rattle.layout.specs.declared.Desc.{Desc}
@@ -82,3 +82,28 @@ unfolding descSet inTable
 stream-set c c₁ page page₁ s k size top d h t a b e n g =
     let x : take 24 (over page 0 (fields s size top d)) ≡ fields s size top d = take-over page (fields s size top d) 24 (sym (length-fields s size top d)) (omega arith) in
     g ∙ rw (e, x, b, a)
+
+pub table-num : (c page : List ℕ) (s : Shape) (at r : ℕ) (t : Desc) → t ≡ table c s → page ≡ over (replicate 8 0) 0 (take 8 (drop at (contents c s (t .top) (dataOf s t) (t .size)))) → r ≡ num 8 page 0
+    → r ≡ num 8 (tableBytes c s) at
+unfolding tableBytes
+table-num c page s at r t e f g = g ∙ page-start 8 (tableBytes c s) page at 8 (omega arith) (rw e at f)
+
+pub table-laid : (c c₁ : List ℕ) (s : Shape) (p h : ℕ) (vs : List ℕ) (t : Desc) → t ≡ table c s → h ≡ height (fan s) (dataOf s t) → c₁ ≡ laid c s (t .top) h p (take (length vs) (drop 0 vs)) → c₁ ≡ inTable c s p vs
+unfolding inTable
+table-laid c c₁ s p h vs t a b e =
+    let x : take (length vs) vs ≡ vs = take-all (length vs) vs (omega arith) in
+    e ∙ rw (x, b, a)
+
+pub stream-laid : (c c₁ : List ℕ) (s : Shape) (k p h : ℕ) (vs : List ℕ) (t : Desc) → t ≡ stream c s k → h ≡ height (fan s) (dataOf s t) → c₁ ≡ laid c s (t .top) h p vs → c₁ ≡ inStream c s k p vs
+unfolding inStream
+stream-laid c c₁ s k p h vs t a b e = e ∙ rw (b, a)
+
+-- written over from end to end
+pub over-whole : (l vs : List ℕ) → length vs ≡ length l → over l 0 vs ≡ vs
+over-whole l vs e =
+    let n = length-over l 0 vs in
+    sym (take-all (length l) (over l 0 vs) (omega arith)) ∙ take-over l vs (length l) (sym e) (omega arith)
+
+pub number-laid : (c c₁ page : List ℕ) (s : Shape) (p v : ℕ) → page ≡ put 8 (replicate 8 0) 0 v → c₁ ≡ inTable c s p page → c₁ ≡ inTable c s p (bytes 8 v)
+unfolding put
+number-laid c c₁ page s p v e f = f ∙ rw (e, over-whole (replicate 8 0) (bytes 8 v) (length-bytes 8 v))

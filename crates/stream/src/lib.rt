@@ -3,5 +3,6 @@
 
 pub mod descs;
 pub mod gather;
+pub mod inside;
 pub mod lay;
 pub mod lengths;

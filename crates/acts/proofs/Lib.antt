@@ -1,0 +1,10 @@
+pub mod Formatting
+pub mod Reading
+pub mod Writing
+pub mod Creating
+pub mod Deleting
+pub mod Naming
+pub mod Fitting
+pub mod Refusing
+pub mod Sound
+pub mod Rooted

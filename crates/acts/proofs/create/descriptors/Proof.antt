@@ -1,0 +1,20 @@
+-- `acts::create::descriptors` keeps its promise.
+use Rattle.acts.proofs.Creating.{count-is}
+use borrow.Author.Needs.{needs}
+use Rattle.acts.proofs.create.descriptors.Statement.{statement}
+use Rattle.acts.proofs.create.descriptors.Tie as tie
+
+table-requires : tie.Need-table-requires
+table-requires c κs = search needs
+
+minus-requires : tie.Need-minus-requires
+minus-requires c κs = search needs
+
+returns : tie.Need-returns
+returns c =
+    let at-table = c .before .table in
+    let at-minus = c .minus in
+    count-is _ _ _ _ (at-table .ensures) (at-minus .ensures)
+
+pub descriptors-spec : {M : Type 1} → statement M
+descriptors-spec = tie.close (tie.spec table-requires minus-requires returns)

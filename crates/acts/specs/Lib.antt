@@ -1,0 +1,4 @@
+pub mod Front
+pub mod Full
+pub mod Fits
+pub mod Deleted

@@ -1,0 +1,91 @@
+-- `filing::listing::nth_entry` keeps its promise.
+use borrow.Author.Needs.{needs}
+use mathlib.Core.Path.{_≡_, sym, _∙_}
+use lib.ListN.{length}
+use Prim.Native.Nat.{_-_, _^_, _<_}
+use native.Mathlib.Omega.{arith}
+use Rattle.layout.specs.Streams.{dataOf, contents}
+use Rattle.layout.specs.Filing.{entries, entriesFrom}
+use Rattle.laws.proofs.Laying.{length-contents}
+use Rattle.filing.specs.Located.{numbered}
+use Rattle.filing.proofs.Finding.{entries-start, nth-here, nth-next, nth-none}
+use Rattle.filing.proofs.listing.nth_entry.Statement.{statement}
+use Rattle.filing.proofs.listing.nth_entry.Tie as tie
+
+abbrev Inv-loop : tie.InvT-loop
+Inv-loop card s t n size at₀ left₀ at left = (at < 2 ^ 63) × (numbered (entriesFrom (length (contents card s (t .top) (dataOf s t) (t .size))) (contents card s (t .top) (dataOf s t) (t .size)) at) left ≡ numbered (entries (contents card s (t .top) (dataOf s t) (t .size))) n)
+
+abbrev μ-loop : tie.MeasureT-loop
+μ-loop card s t n size at₀ left₀ at left = t .size - at
+
+loop-holds : tie.Need-loop-holds Inv-loop μ-loop
+loop-holds c = (omega arith, rw (entries-start _))
+
+read-head-requires : tie.Need-read-head-requires Inv-loop μ-loop
+read-head-requires c κs = search needs
+
+add-minus : tie.Need-add-minus Inv-loop μ-loop
+add-minus c = search needs
+
+minus-requires : tie.Need-minus-requires Inv-loop μ-loop
+minus-requires c κs = search needs
+
+least-requires : tie.Need-least-requires Inv-loop μ-loop
+least-requires c κs = search needs
+
+returns : tie.Need-returns Inv-loop μ-loop
+returns c =
+    let at-loop-test = c .before .before .before .before .loop-test in
+    let at-read-head = c .before .before .before .read-head in
+    let at-if1 = c .before .before .if1 in
+    let at-minus = c .before .minus in
+    let at-least = c .least in
+    let at-loop = c .before .before .before .before .before .loop in
+    (nth-here _ _ _ _ (rw length-contents (at-loop-test .taken)) (at-read-head .ensures .0) (at-read-head .ensures .1) _ _ _ (at-if1 .taken) (rw length-contents (at-minus .ensures)) (at-least .ensures) ∙ at-loop .inv .1, omega (arith, at-loop-test .taken))
+
+add-at : tie.Need-add-at Inv-loop μ-loop
+add-at c = search needs
+
+add-at-2 : tie.Need-add-at-2 Inv-loop μ-loop
+add-at-2 c = search needs
+
+sub-left : tie.Need-sub-left Inv-loop μ-loop
+sub-left c = search needs
+
+loop-less : tie.Need-loop-less Inv-loop μ-loop
+loop-less c = search needs
+
+loop-again : tie.Need-loop-again Inv-loop μ-loop
+loop-again c =
+    let at-loop-test = c .before .before .before .loop-test in
+    let at-start = c .before .before .before .before .before .before in
+    let at-read-head = c .before .before .read-head in
+    let at-if1 = c .before .if1 in
+    let at-loop = c .before .before .before .before .loop in
+    (omega (arith, at-loop-test .taken, at-start .pre .1, at-read-head .ensures .2), nth-next _ _ _ _ (rw length-contents (at-loop-test .taken)) (at-read-head .ensures .0) (at-read-head .ensures .1) _ (at-if1 .left) ∙ at-loop .inv .1)
+
+returns-2 : tie.Need-returns-2 Inv-loop μ-loop
+returns-2 c =
+    let at-start = c .before .before .before in
+    let at-loop = c .before .loop in
+    let at-loop-test = c .loop-test in
+    let a = at-start .args in (nth-none (contents (a .card .now) (a .s) (a .t .top) (dataOf (a .s) (a .t)) (a .t .size)) _ _ _ _ (at-loop .inv .1) (sym (length-contents _ _ _ _ _)) (at-loop-test .left), omega arith)
+
+pub nth-entry-spec : {M : Type 1} → statement M
+nth-entry-spec =
+    tie.close
+    (tie.spec
+    Inv-loop
+    μ-loop
+    loop-holds
+    read-head-requires
+    add-minus
+    minus-requires
+    least-requires
+    returns
+    add-at
+    add-at-2
+    sub-left
+    loop-less
+    loop-again
+    returns-2)
