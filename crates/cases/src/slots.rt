@@ -42,14 +42,13 @@ pub fn data_twice(plan: &mut [u8], card: &mut [u8], owner: usize) {
     put_number(card, slot(&*plan, owner, 0, j), 4, other);
 }
 
-// A slot above one of the lowest rows names another block of the pyramid.
+// A slot above one of the lowest rows names another block of its row.
 pub fn deep_twice(plan: &mut [u8], card: &mut [u8], owner: usize, rows: usize) {
     let t = below(plan, rows) % 4;
     let width = row(&*plan, owner, t);
     let j = below(plan, width);
-    let p = rows_before(&*plan, owner, 4);
-    let y = below(plan, minus(p, 1));
-    let other = rest(rows_before(&*plan, owner, t) + j + 1 + y, p);
+    let y = below(plan, minus(width, 1));
+    let other = rows_before(&*plan, owner, t) + rest(j + 1 + y, width);
     put_number(
         card,
         slot(&*plan, owner, t, j),

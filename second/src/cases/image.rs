@@ -367,13 +367,12 @@ impl Image {
         self.put(self.slot(owner, 0, j), 4, block);
     }
 
-    /// The same: a drawn slot that names another block of the pyramid.
+    /// The same: a drawn slot that names another block of its row.
     pub fn deep_twice(&mut self, owner: Owner, rows: u64) {
         let (row, j) = self.deep(owner, rows);
-        let p = self.blocks(owner).len() as u64;
-        let y = self.plan.dice.below(p - 1);
-        let before: u64 = self.rows(owner)[..row].iter().sum();
-        let other = self.blocks(owner)[((before + j + 1 + y) % p) as usize];
+        let width = self.rows(owner)[row];
+        let y = self.plan.dice.below(width - 1);
+        let other = self.block(owner, row, (j + 1 + y) % width);
         self.put(self.slot(owner, row, j), 4, other);
     }
 }
