@@ -1,10 +1,4 @@
 // Rule 7 broken: the free chain, and blocks that nobody has.
-use crate::blocks::block;
-use crate::blocks::data_blocks;
-use crate::blocks::free;
-use crate::blocks::index;
-use crate::blocks::last_free;
-use crate::blocks::top;
 use crate::cells::BYTES;
 use crate::cells::COUNT;
 use crate::cells::FREE;
@@ -12,12 +6,18 @@ use crate::cells::LENGTH;
 use crate::cells::get;
 use crate::cells::set;
 use crate::dice::below;
+use crate::places::block;
+use crate::places::free;
+use crate::places::index;
+use crate::places::last_free;
+use crate::places::top;
 use crate::put::put_first_free;
 use crate::put::put_link;
 use crate::put::put_owner;
 use crate::put::put_reserved;
 use crate::put::put_size;
 use crate::put::put_top;
+use crate::rows::data_blocks;
 use crate::slots::any_block;
 use crate::slots::any_data;
 use crate::sums::times;
@@ -25,7 +25,7 @@ use crate::wrong::turn;
 use crate::wrong::wrong_block;
 use crate::wrong::wrong_link;
 use memory::numbers::minus;
-ghost use Prim.Native.Nat.{_<_, _≤_};
+ghost use Prim.Native.Nat.{_<_};
 
 // The first-free field of a full card.
 fn full_first(plan: &[u8]) -> usize {

@@ -5,13 +5,18 @@ mod cells;
 mod chain;
 mod descriptors;
 mod dice;
+mod entries;
+mod forms;
 mod header;
+mod kinds;
 mod lay;
 mod own;
+mod places;
 mod plan;
 mod put;
 mod pyramids;
 mod root;
+mod rows;
 mod slots;
 mod sums;
 mod words;
@@ -28,7 +33,7 @@ ghost use Prim.Native.Nat.{_<_, _≤_};
 fn change(plan: &mut [u8], rule: usize, clause: usize) {
     match rule {
         5 => descriptors::change_5(plan, clause),
-        8 => root::change_8(plan, clause),
+        8 => entries::change_8(plan, clause),
         _ => {}
     }
 }

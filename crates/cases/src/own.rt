@@ -1,12 +1,12 @@
 // Rule 4 broken: the table's own descriptor, in the header, and its pyramid.
-use crate::blocks::reserved;
-use crate::blocks::top;
 use crate::cells::BYTES;
 use crate::cells::COUNT;
 use crate::cells::SIZES;
 use crate::cells::get;
 use crate::cells::item;
 use crate::dice::below;
+use crate::places::reserved;
+use crate::places::top;
 use crate::slots::any_data_slot;
 use crate::slots::data_slot_out;
 use crate::slots::data_twice;
@@ -18,7 +18,7 @@ use crate::wrong::wrong_flags;
 use crate::wrong::wrong_reserved;
 use memory::bytes::put_number;
 use memory::numbers::minus;
-ghost use Prim.Native.Nat.{_<_, _≤_};
+ghost use Prim.Native.Nat.{_≤_};
 
 // A size that is no 8 + 25n with n from 1 to 256.
 fn odd_size(plan: &mut [u8], clause: usize) -> usize {

@@ -1,7 +1,7 @@
 // Numbers put where the card has them: in an owner's contents, in a descriptor, in a link.
-use crate::blocks::index;
-use crate::blocks::spot;
-use crate::blocks::start;
+use crate::places::index;
+use crate::places::spot;
+use crate::places::start;
 use memory::bytes::put_byte;
 use memory::bytes::put_number;
 use memory::numbers::minus;

@@ -1,10 +1,10 @@
 // Rule 6 broken: the streams' pyramids. Owner 1 is the root, owners 2 and 3 are named streams 0 and 1.
-use crate::blocks::index;
-use crate::blocks::top;
 use crate::cells::BYTES;
 use crate::cells::COUNT;
 use crate::cells::get;
 use crate::dice::below;
+use crate::places::index;
+use crate::places::top;
 use crate::put::put_reserved;
 use crate::put::put_size;
 use crate::put::put_top;
@@ -18,7 +18,6 @@ use crate::sums::times;
 use crate::wrong::turn;
 use crate::wrong::wrong_block;
 use memory::bytes::put_number;
-ghost use Prim.Native.Nat.{_<_, _≤_};
 
 // A top out of range.
 fn top_out(plan: &mut [u8], card: &mut [u8]) {

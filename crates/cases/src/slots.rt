@@ -1,10 +1,10 @@
 // Slots of a pyramid made wrong: rules 4 and 6 share these.
-use crate::blocks::block;
-use crate::blocks::data_blocks;
-use crate::blocks::row;
-use crate::blocks::rows_before;
-use crate::blocks::slot;
 use crate::dice::below;
+use crate::places::block;
+use crate::places::slot;
+use crate::rows::data_blocks;
+use crate::rows::row;
+use crate::rows::rows_before;
 use crate::sums::rest;
 use crate::wrong::wrong_slot;
 use memory::bytes::put_number;

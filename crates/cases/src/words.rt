@@ -23,13 +23,6 @@ fn say_0(clause: usize) {
     }
 }
 
-// Rule 1.
-fn say_1(clause: usize) {
-    match clause {
-        _ => say(b"short "),
-    }
-}
-
 // Rule 2.
 fn say_2(clause: usize) {
     match clause {
@@ -195,7 +188,7 @@ fn say_8(clause: usize) {
 pub fn say_name(rule: usize, clause: usize) {
     match rule {
         0 => say_0(clause),
-        1 => say_1(clause),
+        1 => say(b"short "),
         2 => say_2(clause),
         3 => say_3(clause),
         4 => say_4(clause),

@@ -7,7 +7,7 @@ use crate::cells::get;
 use crate::dice::below;
 use crate::sums::rest;
 use memory::numbers::minus;
-ghost use Prim.Native.Nat.{_<_, _≤_};
+ghost use Prim.Native.Nat.{_<_};
 
 // The number of the value whose turn it is, of `n`.
 pub fn turn(plan: &[u8], n: usize) -> usize

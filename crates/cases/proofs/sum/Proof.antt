@@ -1,8 +1,6 @@
 -- `cases::sum` keeps its promise and ends: its counter falls to 0.
 use Prim.Native.Nat.{_<_, _≤_}
 use borrow.Author.Needs.{needs}
-use lib.ListN.{length}
-use mathlib.Core.Path.{_≡_}
 use Rattle.cases.proofs.sum.Statement.{statement}
 use Rattle.cases.proofs.sum.Tie as tie
 

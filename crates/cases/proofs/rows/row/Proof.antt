@@ -1,10 +1,8 @@
--- `cases::blocks::row` keeps its promise and ends: its counter falls to 0.
+-- `cases::rows::row` keeps its promise and ends: its counter falls to 0.
 use Prim.Native.Nat.{_≤_}
 use borrow.Author.Needs.{needs}
-use lib.ListN.{length}
-use mathlib.Core.Path.{_≡_}
-use Rattle.cases.proofs.blocks.row.Statement.{statement}
-use Rattle.cases.proofs.blocks.row.Tie as tie
+use Rattle.cases.proofs.rows.row.Statement.{statement}
+use Rattle.cases.proofs.rows.row.Tie as tie
 
 abbrev Inv-loop : tie.InvT-loop
 Inv-loop plan owner t width₀ left₀ width left = (left ≤ left₀)
