@@ -110,7 +110,7 @@ pub fn rule2(card: &[u8]) -> bool
 }
 
 // 2 to the power of the shift.
-fn power(shift: usize) -> usize
+pub fn power(shift: usize) -> usize
     requires { ⌜ shift ≤ 12 ⌝ }
     ensures { λ r. ⌜ r ≡ 2 ^ shift ⌝ }
 {

@@ -1,0 +1,6 @@
+pub mod Outcomes
+pub mod Passing
+pub mod Shaping
+pub mod Named
+pub mod Roomy
+pub mod Listing

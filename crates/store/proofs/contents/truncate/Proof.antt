@@ -1,0 +1,168 @@
+use borrow.Author.Tests.{not-true, not-false}
+use native.Mathlib.Omega.{arith}
+use Rattle.layout.specs.Promises.{Truncates}
+use Rattle.layout.specs.Calls.{truncate}
+use Rattle.store.proofs.Outcomes.{refuse-1, refuse-2}
+use Rattle.store.proofs.Passing.{shift-fits, small-of, root-low, name-fits, index-low, size-low}
+use Rattle.store.proofs.Named.{truncate-unknown, truncate-past, truncate-done}
+use borrow.Author.Needs.{needs}
+use Rattle.store.proofs.contents.truncate.Statement.{statement}
+use Rattle.store.proofs.contents.truncate.Tie as tie
+use Rattle.store.proofs.contents.truncate.Reads as reads
+use Rattle.store.proofs.contents.truncate.Lts as lts
+use Rattle.acts.proofs.read.size.Reads as size-reads
+use Rattle.acts.proofs.write.truncate.Reads as truncate-reads
+use Rattle.filing.proofs.names.good_name.Reads as good-name-reads
+use Rattle.sound.proofs.header.shape.Reads as shape-reads
+use Rattle.store.proofs.front.examine.Reads as examine-reads
+use Rattle.store.proofs.front.look.Reads as look-reads
+
+-- src/contents.rt:92:9
+examine-requires : tie.Need-examine-requires
+examine-requires c κs = search needs
+
+-- src/contents.rt:94:9
+same-length : tie.Need-same-length
+same-length c = search needs
+
+-- src/contents.rt:94:9
+returns : tie.Need-returns
+unfolding Truncates truncate
+returns c =
+    let at-examine = c .before .examine in
+    let at-if1 = c .if1 in
+    refuse-1 _ _ _ _ _ (at-examine .ensures) (at-if1 .taken)
+
+-- src/contents.rt:96:9
+good-name-requires : tie.Need-good-name-requires
+good-name-requires c κs = search needs
+
+-- src/contents.rt:97:9
+same-length-2 : tie.Need-same-length-2
+same-length-2 c = search needs
+
+-- src/contents.rt:97:9
+returns-2 : tie.Need-returns-2
+unfolding Truncates truncate
+returns-2 c =
+    let at-examine = c .before .before .before .examine in
+    let at-if1 = c .before .before .if1 in
+    let at-good-name = c .before .good-name in
+    let at-if2 = c .if2 in
+    refuse-2 _ _ _ _ _ _ (at-examine .ensures) (at-if1 .left) _ (at-good-name .ensures) (not-true _ (at-if2 .taken))
+
+-- src/contents.rt:99:9
+shape-requires : tie.Need-shape-requires
+shape-requires c κs =
+    let at-examine = c .before .before .before .before .examine in
+    let at-if1 = c .before .before .before .if1 in
+    shift-fits _ _ (at-examine .ensures) (at-if1 .left)
+
+-- src/contents.rt:100:9
+look-requires : tie.Need-look-requires
+look-requires c κs =
+    let at-examine = c .before .before .before .before .before .before .examine in
+    let at-if1 = c .before .before .before .before .before .if1 in
+    let at-shape = c .before .shape in
+    let at-good-name = c .before .before .before .before .good-name in
+    let at-if2 = c .before .before .before .if2 in
+    (small-of _ _ (at-examine .ensures) (at-if1 .left) _ (at-shape .ensures), root-low _ _ (at-examine .ensures) (at-if1 .left) _ (at-shape .ensures), name-fits _ _ (at-good-name .ensures) (not-false _ (at-if2 .left)))
+
+-- src/contents.rt:102:9
+same-length-3 : tie.Need-same-length-3
+same-length-3 c = search needs
+
+-- src/contents.rt:102:9
+returns-3 : tie.Need-returns-3
+unfolding Truncates
+returns-3 c =
+    let at-examine = c .before .before .before .before .before .before .before .before .before .examine in
+    let at-if1 = c .before .before .before .before .before .before .before .before .if1 in
+    let at-good-name = c .before .before .before .before .before .before .before .good-name in
+    let at-if2 = c .before .before .before .before .before .before .if2 in
+    let at-shape = c .before .before .before .before .shape in
+    let at-look = c .before .before .look in
+    let at-if3 = c .if3 in
+    truncate-unknown _ _ _ (at-examine .ensures) (at-if1 .left) _ (at-good-name .ensures) (not-false _ (at-if2 .left)) _ (at-shape .ensures) _ (at-look .ensures) (not-true _ (at-if3 .taken)) _
+
+-- src/contents.rt:104:8
+size-requires : tie.Need-size-requires
+size-requires c κs =
+    let at-examine = c .before .before .before .before .before .before .before .before .before .before .examine in
+    let at-if1 = c .before .before .before .before .before .before .before .before .before .if1 in
+    let at-shape = c .before .before .before .before .before .shape in
+    let at-look = c .before .before .before .look in
+    let at-if3 = c .before .if3 in
+    (small-of _ _ (at-examine .ensures) (at-if1 .left) _ (at-shape .ensures), index-low _ _ (at-examine .ensures) (at-if1 .left) _ (at-shape .ensures) _ _ (at-look .ensures) (not-false _ (at-if3 .left)))
+
+-- src/contents.rt:105:9
+same-length-4 : tie.Need-same-length-4
+same-length-4 c = search needs
+
+-- src/contents.rt:105:9
+returns-4 : tie.Need-returns-4
+unfolding Truncates
+returns-4 c =
+    let at-examine = c .before .before .before .before .before .before .before .before .before .before .before .before .examine in
+    let at-if1 = c .before .before .before .before .before .before .before .before .before .before .before .if1 in
+    let at-good-name = c .before .before .before .before .before .before .before .before .before .before .good-name in
+    let at-if2 = c .before .before .before .before .before .before .before .before .before .if2 in
+    let at-shape = c .before .before .before .before .before .before .before .shape in
+    let at-look = c .before .before .before .before .before .look in
+    let at-if3 = c .before .before .before .if3 in
+    let at-size = c .before .size in
+    let at-if4 = c .if4 in
+    truncate-past _ _ _ (at-examine .ensures) (at-if1 .left) _ (at-good-name .ensures) (not-false _ (at-if2 .left)) _ (at-shape .ensures) _ (at-look .ensures) (not-false _ (at-if3 .left)) _ _ (at-size .ensures) (at-if4 .taken)
+
+-- src/contents.rt:107:5
+truncate-requires : tie.Need-truncate-requires
+truncate-requires c κs =
+    let at-examine = c .before .before .before .before .before .before .before .before .before .before .before .before .before .examine in
+    let at-if1 = c .before .before .before .before .before .before .before .before .before .before .before .before .if1 in
+    let at-shape = c .before .before .before .before .before .before .before .before .shape in
+    let at-look = c .before .before .before .before .before .before .look in
+    let at-if3 = c .before .before .before .before .if3 in
+    let at-size = c .before .before .size in
+    let at-if4 = c .before .if4 in
+    (small-of _ _ (at-examine .ensures) (at-if1 .left) _ (at-shape .ensures), index-low _ _ (at-examine .ensures) (at-if1 .left) _ (at-shape .ensures) _ _ (at-look .ensures) (not-false _ (at-if3 .left)), omega (arith, at-size .ensures, at-if4 .left, size-low _ _ (at-examine .ensures) (at-if1 .left) _ (at-shape .ensures) _ _ (at-look .ensures) (not-false _ (at-if3 .left))))
+
+-- src/contents.rt:89:1
+same-length-5 : tie.Need-same-length-5
+same-length-5 c = search needs
+
+-- src/contents.rt:89:1
+returns-5 : tie.Need-returns-5
+unfolding Truncates
+returns-5 c =
+    let at-examine = c .before .before .before .before .before .before .before .before .before .before .before .before .before .before .before .before .examine in
+    let at-if1 = c .before .before .before .before .before .before .before .before .before .before .before .before .before .before .before .if1 in
+    let at-good-name = c .before .before .before .before .before .before .before .before .before .before .before .before .before .before .good-name in
+    let at-if2 = c .before .before .before .before .before .before .before .before .before .before .before .before .before .if2 in
+    let at-shape = c .before .before .before .before .before .before .before .before .before .before .before .shape in
+    let at-look = c .before .before .before .before .before .before .before .before .before .look in
+    let at-if3 = c .before .before .before .before .before .before .before .if3 in
+    let at-size = c .before .before .before .before .before .size in
+    let at-if4 = c .before .before .before .before .if4 in
+    let at-truncate = c .before .before .truncate in
+    truncate-done _ _ _ (at-examine .ensures) (at-if1 .left) _ (at-good-name .ensures) (not-false _ (at-if2 .left)) _ (at-shape .ensures) _ (at-look .ensures) (not-false _ (at-if3 .left)) _ _ (at-size .ensures) (at-if4 .left) _ (at-truncate .ensures)
+
+pub truncate-spec : {M : Type 1} → statement M
+truncate-spec =
+    tie.close
+    (tie.spec
+    examine-requires
+    same-length
+    returns
+    good-name-requires
+    same-length-2
+    returns-2
+    shape-requires
+    look-requires
+    same-length-3
+    returns-3
+    size-requires
+    same-length-4
+    returns-4
+    truncate-requires
+    same-length-5
+    returns-5)
