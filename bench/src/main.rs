@@ -313,6 +313,30 @@ fn streaming(cut: Cut, d: usize, h: usize) {
     );
 }
 
+/// A card with so many streams, every name of so many bytes, and a few bytes in each stream.
+fn filled(s: u64, blocks: usize, streams: usize, length: usize) -> Vec<u8> {
+    let mut card = vec![0; 87 + blocks * (1 << s)];
+    assert!(second::format(&mut card, s).is_done());
+    for k in 0..streams {
+        let name = format!("{k:0length$}");
+        assert!(second::create(&mut card, name.as_bytes()).is_done());
+        assert!(second::write(&mut card, name.as_bytes(), 0, &[7; 100]).is_done());
+    }
+    card
+}
+
+/// The check of a whole card, against `second`, which keeps its marks in a vector and its names in a hash set.
+fn checking(s: u64, blocks: usize, streams: usize, length: usize) {
+    let mut card = filled(s, blocks, streams, length);
+    assert!(ours::check(&card) == 0 && second::check(&card).is_done());
+    row(
+        &format!("check: {blocks} blocks, {streams} names of {length}"),
+        &mut card,
+        |c| each(20, |_| _ = black_box(ours::check(black_box(c)))),
+        |c| each(20, |_| _ = black_box(second::check(black_box(c)))),
+    );
+}
+
 fn main() {
     println!(
         "{:44} {:>11} {:>11} {:>7}",
@@ -336,4 +360,9 @@ fn main() {
     growing(small, black_box(1000));
     streaming(small, black_box(1024), black_box(3));
     streaming(large, black_box(16), black_box(1));
+    checking(6, 64, 3, 8);
+    checking(6, 1022, 100, 8);
+    checking(6, 4096, 255, 8);
+    checking(6, 4096, 255, 64);
+    checking(12, 1022, 255, 64);
 }

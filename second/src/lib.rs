@@ -8,7 +8,8 @@
 //! were. No input makes a call panic or run for ever.
 //!
 //! The [`generator`] holds what tests and other programs share: the dice, plain lists, random
-//! runs, the card as lists, scrambled cards and damage.
+//! runs, the card as lists, scrambled cards and damage. The [`cases`] are damaged and scrambled
+//! cards by a description of their own, which the proved check is asked about too.
 
 #![forbid(unsafe_code)]
 #![warn(missing_docs)]
@@ -16,6 +17,7 @@
 pub mod answer;
 pub mod bytes;
 pub mod calls;
+pub mod cases;
 pub mod chain;
 pub mod check;
 pub mod filing;

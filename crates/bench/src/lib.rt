@@ -1,5 +1,5 @@
-// What the benchmark in bench/ calls: the functions of memory, blocks and stream, each under a name of its own and with its own
-// promise. Where one has a `requires`, the benchmark meets it: its cards are whole, and it made every number itself.
+// What the benchmark in bench/ calls: functions of memory, blocks, stream and sound, each under a name of its own and with its
+// own promise. Where one has a `requires`, the benchmark meets it: its cards are whole, and it made every number itself.
 use blocks::chain::enough;
 use blocks::chain::take_block;
 use blocks::growth::grow;
@@ -11,6 +11,8 @@ use layout::Shape;
 use memory::runs::clear;
 use memory::runs::copy;
 use memory::runs::matches;
+use sound::check::check;
+use sound::check::check_on;
 use stream::gather::gather_stream;
 use stream::lay::lay;
 ghost use mathlib.Core.Path.{_≡_};
@@ -19,6 +21,7 @@ ghost use lib.ListN.{length, take, drop, replicate};
 ghost use Rattle.layout.specs.Bytes.{over, matches};
 ghost use Rattle.layout.specs.Blocks.{node, firstFree, enough, taken, grown, surplus, released};
 ghost use Rattle.layout.specs.Streams.{contents, laid};
+ghost use Rattle.layout.specs.Sound.{broken};
 ghost use Rattle.layout.specs.Ranges.{Small};
 ghost use Rattle.blocks.specs.Walks.{plainShape};
 ghost use Rattle.bench.specs.Cuts.{cut};
@@ -240,4 +243,21 @@ pub extern "C" fn bench_lay(
         filing: 0,
     };
     lay(card, s, top, h, p, &*given, 0, n);
+}
+
+#[no_mangle]
+pub extern "C" fn bench_check(card: &[u8]) -> usize
+    ensures { λ r. ⌜ r ≡ broken (now (card .entry)) ⌝ }
+{
+    check(card)
+}
+
+// The same with 65,536 marks, for the test of the stack.
+#[no_mangle]
+pub extern "C" fn bench_check_wide(card: &[u8]) -> usize
+    ensures { λ r. ⌜ r ≡ broken (now (card .entry)) ⌝ }
+{
+    let mut tab = [0; 6408];
+    let mut marks = [0; 65536];
+    check_on(card, &mut tab, &mut marks)
 }

@@ -14,25 +14,17 @@ use Rattle.laws.proofs.State.{Whole}
 use Rattle.laws.proofs.Soundness.{whole}
 use Rattle.demands.specs.Plain.{Plainly, only, orNo}
 use Rattle.demands.specs.Shows.{plain}
+use Rattle.demands.specs.Demand2.{Answers}
 use Rattle.demands.proofs.Numbers.{number-is, plain-number-is}
 
--- the same numbers and the same tray
-pub record Answers (o : Outcome) (q : Plainly) : Type 0 where
-  pub number : o .number ≡ q .number
-  pub rule : o .rule ≡ 0
-  pub count : o .count ≡ q .count
-  pub size : o .size ≡ q .size
-  pub length : o .length ≡ q .length
-  pub tray : o .tray ≡ q .tray
-
--- and neither the card nor the list is changed
+-- a call that answers so, and changes neither the card nor the list
 pub record Looks (c : List ℕ) (o : Outcome) (q : Plainly) : Type 0 where
   pub answers : Answers o q
   pub card : o .card ≡ c
   pub list : q .after ≡ plain c
 
 -- the card that is left is whole, and shows the list that is left
-pub record Leaves (o : Outcome) (q : Plainly) : Type 0 where
+pub record Left (o : Outcome) (q : Plainly) : Type 0 where
   pub after : Whole (o .card)
   pub shows : plain (o .card) ≡ q .after
 
@@ -59,8 +51,8 @@ module _ (c : List ℕ) (w : Whole c) (t : List ℕ) (x y : List Test) (o : Outc
       no-rule true n e = e
       no-rule false n e = refl
 
-  pub leaves : (unless tests c t o .number ≡ 0 → Leaves (unless tests c t o) (orNo y (plain c) t q)) → Leaves (unless tests c t o) (orNo y (plain c) t q)
-  leaves f = either Leaves (λ z. rw (eqb-yes z, eqb-yes (sym together ∙ z)) at (f (number-is tests c t o a ∙ z))) (record { after = w; shows = refl })
+  pub leaves : (unless tests c t o .number ≡ 0 → Left (unless tests c t o) (orNo y (plain c) t q)) → Left (unless tests c t o) (orNo y (plain c) t q)
+  leaves f = either Left (λ z. rw (eqb-yes z, eqb-yes (sym together ∙ z)) at (f (number-is tests c t o a ∙ z))) (record { after = w; shows = refl })
 
   -- a call that changes nothing
   pub looks : (firstNo tests ≡ 0 → Looks c o q) → Looks c (unless tests c t o) (orNo y (plain c) t q)

@@ -53,6 +53,7 @@ pub record Created (c name c′ : List ℕ) : Type 0 where
   pub root-from : (b : ℕ) → In b (streamBlocks c′ (shapeOf c) 0) → In b (streamBlocks c (shapeOf c) 0) ⊎ In b (take (createWants c name) (chain c (shapeOf c)))
   pub table-from : (b : ℕ) → In b (tableBlocks c′ (shapeOf c)) → In b (tableBlocks c (shapeOf c)) ⊎ In b (take (createWants c name) (chain c (shapeOf c)))
   pub chain-is : chain c′ (shapeOf c) ≡ drop (createWants c name) (chain c (shapeOf c))
+  pub shape-is : shapeOf c′ ≡ shapeOf c
   pub long : length c′ ≡ length c
   pub rest-same : (i : ℕ) → NotField (shapeOf c) i → NotTable (shapeOf c) i → Beyond (shapeOf c) (take (createWants c name) (chain c (shapeOf c))) i
       → Beyond (shapeOf c) (tableBlocks c (shapeOf c)) i → Beyond (shapeOf c) (streamBlocks c (shapeOf c) 0) i → getD c′ i 0 ≡ getD c i 0
@@ -234,6 +235,7 @@ creates c w name ok new few enough plainly =
       root-from = root-from c w name ok new c₁ j m d enough;
       table-from = λ b i. table-from c w name ok new c₁ j m d enough b (rw (ed .table-of) at i);
       chain-is = ed .chain-is ∙ drop-drop _ m (chain c s);
+      shape-is = ed .core .shape-is;
       long = ed .long ∙ d .step .long;
       rest-same = rest₂ c w name ok new c₁ j m d enough;
     }

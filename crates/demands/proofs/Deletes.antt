@@ -57,6 +57,8 @@ pub record Deleted (c name c′ : List ℕ) : Type 0 where
   pub chain-is : chain c′ (shapeOf c)
       ≡ spare c (shapeOf c) 0 (length (withoutEntry (streamBytes c (shapeOf c) 0) (entryOf c name)))
       ++ (rising (shapeOf c .count) 0 (streamBlocks c (shapeOf c) (indexOf c name)) ++ chain c (shapeOf c))
+  pub shorter : length (withoutEntry (streamBytes c (shapeOf c) 0) (entryOf c name)) ≤ stream c (shapeOf c) 0 .size
+  pub shape-is : shapeOf c′ ≡ shapeOf c
   pub long : length c′ ≡ length c
   pub rest-same : (i : ℕ) → NotField (shapeOf c) i → Beyond (shapeOf c) (tableBlocks c (shapeOf c)) i → Beyond (shapeOf c) (streamBlocks c (shapeOf c) 0) i
       → Beyond (shapeOf c) (streamBlocks c (shapeOf c) (indexOf c name)) i → getD c′ i 0 ≡ getD c i 0
@@ -312,6 +314,8 @@ module _ (c : List ℕ) (w : Whole c) (name : List ℕ) (known : lookIn (rootOf 
     root-from = root-from;
     table-of = both .table-of ∙ table₂;
     chain-is = chain₄;
+    shorter = omega (arith, ends, length-stream c s 0);
+    shape-is = both .core .shape-is;
     long = both .long ∙ gone .long ∙ freed .long;
     rest-same = rest₄;
     bytes-same = bytes₄;

@@ -1,5 +1,5 @@
 -- The free blocks are those that P leaves: the plain list tells their number.
-use mathlib.Core.Path.{_≡_, refl, sym, ap, _∙_}
+use mathlib.Core.Path.{_≡_, refl, sym, ap, ap₂, _∙_}
 use mathlib.Core.List.{List, [], _∷_}
 use Prim.Native.Nat.{ℕ, suc, _+_}
 use native.Mathlib.Omega.{arith}
@@ -73,10 +73,12 @@ module _ (c : List ℕ) (w : Whole c) where
   unfolding plain shapeOf
   shape-is = (refl, refl)
 
+  root-cost : needs (blockSize (plain c)) (rootSize (plain c .items)) ≡ needs (s .size) (stream c s 0 .size)
+  root-cost = ap₂ needs (shape-is .0) (sym root-size)
+
   pub used-and-free : usedBy (plain c) + length (chain c s) ≡ plain c .count
   unfolding usedBy
-  used-and-free =
-      rw (item-costs, ← root-size, ← table-cost, shape-is .0, shape-is .1) (omega (arith, w .core .parts .sum, all-costs, live-costs))
+  used-and-free = omega (arith, item-costs, root-cost, table-cost, shape-is .1, w .core .parts .sum, all-costs, live-costs)
 
   -- so the count of the chain is a matter of the plain list
   pub free-count : length (chain c s) ≡ freeOf (plain c)

@@ -23,3 +23,12 @@ pub mod NewCard
 pub mod Formats
 pub mod Peak
 pub mod History
+pub mod Exactly
+pub mod Meets2
+pub mod Once
+pub mod Streamwise
+pub mod Directorywise
+pub mod Deciding
+pub mod Keeping
+pub mod Pulling
+pub mod Meets3

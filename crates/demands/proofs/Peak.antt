@@ -7,8 +7,9 @@ use native.Mathlib.Omega.{arith}
 use lib.ListN.{length, length-append}
 use Rattle.layout.specs.Calls.{Test, firstNo}
 use Rattle.laws.proofs.Picks.{eqb-yes, eqb-no}
-use Rattle.demands.specs.Plain.{Item, Plain, Plainly, orNo, edited, removed, withItems, plainCheck, plainRoom, plainSize, plainRead, plainList, plainWrite, plainTruncate, plainCreate, plainDelete}
-use Rattle.demands.specs.Runs.{Call, checks, rooms, sizes, reads, lists, writes, truncates, creates, deletes, plainCall, plainAfter, peak}
+use Rattle.demands.specs.Plain.{Item, Plain, Plainly, orNo, edited, removed, withItems, plainCheck, plainRoom, plainSize, plainRead, plainList, plainWrite, plainTruncate, plainCreate, plainDelete, plainCall}
+use Rattle.demands.specs.Call.{Call, checks, rooms, sizes, reads, lists, writes, truncates, creates, deletes}
+use Rattle.demands.specs.Runs.{plainAfter, peak}
 use Rattle.demands.proofs.Items.{length-edited, length-removed}
 
 -- there is a descriptor for the root and for each item, and no more than the items ever needed

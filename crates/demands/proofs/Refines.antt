@@ -8,7 +8,8 @@ use Rattle.layout.specs.Calls.{Test, unless, damaged, check, room, size, read, 
 use Rattle.laws.proofs.Soundness.{sound, whole}
 use Rattle.demands.specs.Plain.{Plain, Plainly, orNo, plainCheck, plainRoom, plainSize, plainRead, plainList, plainWrite, plainTruncate, plainCreate, plainDelete}
 use Rattle.demands.specs.Shows.{plain}
-use Rattle.demands.proofs.Agrees.{Answers, Leaves, Looks, answers, leaves}
+use Rattle.demands.specs.Demand2.{Answers}
+use Rattle.demands.proofs.Agrees.{Left, Looks, answers, leaves}
 use Rattle.demands.proofs.Refusals.{write-number, truncate-number, create-number, delete-number}
 use Rattle.demands.proofs.Values.{check-values, room-values, size-values, read-values, list-values}
 use Rattle.demands.proofs.Writes.{write-done}
@@ -16,27 +17,14 @@ use Rattle.demands.proofs.Truncates.{truncate-done}
 use Rattle.demands.proofs.Creates.{create-done}
 use Rattle.demands.proofs.Deletes.{delete-done}
 
+-- the answers, and a card that passes its check and shows the list that is left
 pub record Refines (o : Outcome) (q : Plainly) : Type 0 where
-  pub number : o .number ≡ q .number
-  pub rule : o .rule ≡ 0
-  pub count : o .count ≡ q .count
-  pub size : o .size ≡ q .size
-  pub length : o .length ≡ q .length
-  pub tray : o .tray ≡ q .tray
+  pub answers : Answers o q
   pub sound : broken (o .card) ≡ 0
   pub shows : plain (o .card) ≡ q .after
 
-refines : {o : Outcome} {q : Plainly} → Answers o q → Leaves o q → Refines o q
-refines {o} a l = record {
-  number = a .number;
-  rule = a .rule;
-  count = a .count;
-  size = a .size;
-  length = a .length;
-  tray = a .tray;
-  sound = whole (o .card) (l .after);
-  shows = l .shows;
-}
+refines : {o : Outcome} {q : Plainly} → Answers o q → Left o q → Refines o q
+refines {o} a l = record { answers = a; sound = whole (o .card) (l .after); shows = l .shows }
 
 module _ (c : List ℕ) (passes : broken c ≡ 0) where
   -- the calls that change nothing
@@ -62,7 +50,7 @@ module _ (c : List ℕ) (passes : broken c ≡ 0) where
   acts : (n : ℕ) (x y : List Test) (c′ : List ℕ) (p : Plain) →
       let o = unless (damaged c ∷ x) c [] (counted n c′ []) in
       let q = orNo y (plain c) [] (record { number = 0; count = n; size = 0; length = 0; tray = []; after = p }) in
-      o .number ≡ q .number → (o .number ≡ 0 → Leaves o q) → Refines o q
+      o .number ≡ q .number → (o .number ≡ 0 → Left o q) → Refines o q
   acts n x y c′ p same done = refines
       (answers c (sound c passes) [] x y _ _ refl refl same (λ z. record { number = refl; rule = refl; count = refl; size = refl; length = refl; tray = refl }))
       (leaves c (sound c passes) [] x y _ _ refl refl same done)

@@ -1,3 +1,9 @@
+pub mod Call
 pub mod Plain
 pub mod Shows
 pub mod Runs
+pub mod Store
+pub mod Owners
+pub mod Parts
+pub mod Demand2
+pub mod Demand3

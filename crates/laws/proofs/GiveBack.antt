@@ -164,6 +164,14 @@ module _ (bs : List ℕ) where
     | inr k ↦ rising-in n (suc m) b k
   ]
 
+  pub in-rising : (n m b : ℕ) → m ≤ b → b < m + n → In b bs → In b (rising n m bs)
+  unfolding rising
+  in-rising zero m b l h i = absurd (omega arith)
+  in-rising (suc n) m b l h i = in-pick (holds m bs) b m (rising n (suc m) bs) (elim (ℕ-discrete b m) [
+    | yes e ↦ inl (rw (← e) (holds-in b bs i), e)
+    | no u ↦ inr (in-rising n (suc m) b (omega arith) (omega arith) i)
+  ])
+
   rising-all : (n : ℕ) (xs : List ℕ) → onto (falling n bs) xs ≡ rising n 0 bs ++ xs
   unfolding rising
   rising-all n xs = rw (add-zero n) at (rising-onto n 0 xs)

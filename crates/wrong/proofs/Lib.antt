@@ -1,0 +1,5 @@
+pub mod Known
+pub mod Computed
+pub mod Asked
+pub mod Rejected
+pub mod Misplaced
