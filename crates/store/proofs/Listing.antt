@@ -1,11 +1,11 @@
 -- An entry by its number: refused in its turn, or told.
-use mathlib.Core.Path.{_≡_, refl, sym, ap, subst, _∙_}
-use mathlib.Core.Bool.{Bool, true, false, not}
-use mathlib.Core.List.{List, [], _∷_}
+use mathlib.Core.Path.{_≡_, refl, sym, _∙_}
+use mathlib.Core.Bool.{true, false, not}
+use mathlib.Core.List.{List, []}
 use Prim.Native.Nat.{ℕ, _^_, _≤_, _<_}
 use native.Mathlib.Omega.{arith}
 use lib.ListN.{length, getD, List·getD-eq-default}
-use lib.Dec.{leb, ltb}
+use lib.Dec.{leb}
 use borrow.Author.Tests.{leb-false, lt-ltb, le-ltb}
 use Rattle.layout.specs.Bytes.{over}
 use Rattle.layout.specs.Streams.{dataOf, contents, stream, streamBytes}
@@ -13,9 +13,8 @@ use Rattle.layout.specs.Filing.{entries, entriesOf, nothing}
 use Rattle.layout.specs.Header.{shapeOf}
 use Rattle.layout.specs.Sound.{broken}
 use Rattle.layout.specs.Answers.{refused, listed}
-use Rattle.layout.specs.Calls.{unless, rootOf, sizeOf, list}
-use Rattle.laws.proofs.State.{Core}
-use Rattle.laws.proofs.Tests.{Is, is-leb}
+use Rattle.layout.specs.Calls.{rootOf, list}
+use Rattle.laws.proofs.Tests.{is-leb}
 use Rattle.filing.specs.Located.{numbered}
 use Rattle.acts.proofs.Fitting.{live-low}
 use Rattle.acts.proofs.Rooted.{row-of}

@@ -1,34 +1,28 @@
 -- The calls on a name that was looked for: each refusal in its turn, and what is done.
-use mathlib.Core.Path.{_≡_, refl, sym, ap, subst, _∙_}
+use mathlib.Core.Path.{_≡_, sym, ap, subst, _∙_}
 use mathlib.Core.Bool.{Bool, true, false, not}
-use mathlib.Core.List.{List, [], _∷_}
-use Prim.Native.Nat.{ℕ, _+_, _*_, _^_, max, _≤_, _<_}
-use native.Mathlib.Nat.{mul-le-mul}
+use mathlib.Core.List.{List, []}
+use Prim.Native.Nat.{ℕ, _≤_, _<_}
 use native.Mathlib.Omega.{arith}
-use lib.ListN.{length, take, drop, getD}
-use lib.Dec.{leb, ltb}
+use lib.ListN.{length, take, drop}
+use lib.Dec.{ltb}
 use borrow.Author.Tests.{lt-ltb, le-ltb}
-use Rattle.layout.specs.Limits.{mostStreams}
 use Rattle.layout.specs.Bytes.{over}
-use Rattle.layout.specs.Blocks.{chain, enough}
-use Rattle.layout.specs.Streams.{stream, streamBytes, tableBytes, lives, wants}
-use Rattle.layout.specs.Filing.{goodName, entriesOf, lookIn, nothing}
+use Rattle.layout.specs.Streams.{stream, streamBytes}
+use Rattle.layout.specs.Filing.{goodName, entriesOf, lookIn}
 use Rattle.layout.specs.Header.{shapeOf}
 use Rattle.layout.specs.Sound.{broken}
 use Rattle.layout.specs.Answers.{refused, done, counted, sized}
-use Rattle.layout.specs.Calls.{known, unless, pastTheEnd, noRoom, streamsFull, rootOf, sizeOf, indexOf, entryOf, sizeAfter, sizeAfterIn, writtenIn, written, truncatedIn, createWantsIn, createdIn, created, undescribed, deleted, size, read, write, truncate, create, delete}
+use Rattle.layout.specs.Calls.{known, rootOf, sizeOf, indexOf, entryOf, truncatedIn, deleted, size, read, write, truncate, delete}
 use Rattle.laws.proofs.State.{Core}
 use Rattle.laws.proofs.Entries.{look-name}
 use Rattle.filing.specs.Located.{located}
 use Rattle.acts.specs.Deleted.{deletedAt}
-use Rattle.acts.specs.Full.{fullTable}
-use Rattle.acts.proofs.Refusing.{enough-is, too-long, full-is}
 use Rattle.acts.proofs.Sound.{deleted-is}
-use Rattle.store.proofs.Outcomes.{pass, stop, none, refuse-3, past-3, refuse-4, past-4}
-use Rattle.store.proofs.Passing.{passed, small-of, known-is, index-is, at-is, there, live-of, index-low, size-low}
+use Rattle.store.proofs.Outcomes.{pass, stop, none, refuse-3, past-3}
+use Rattle.store.proofs.Passing.{passed, known-is, index-is, at-is, there}
 use Rattle.filing.specs.declared.entries.Found.{Found}
 use Rattle.layout.specs.declared.Shape.{Shape}
-use Rattle.layout.specs.declared.Desc.{Desc}
 
 module _ (c name : List ℕ) (rule : ℕ) (e : rule ≡ broken c) (z : rule ≡ 0) (q : Bool) (f : q ≡ goodName name) (g : q ≡ true) (s : Shape) (h : s ≡ shapeOf c)
     (x : Found) (w : x ≡ located (entriesOf c s 0) name 0) where

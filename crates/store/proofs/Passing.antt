@@ -1,15 +1,12 @@
 -- A card that passed the check: what the acts ask for is there.
-use mathlib.Core.Path.{_≡_, refl, sym, ap, subst, _∙_}
-use mathlib.Core.Bool.{Bool, true, false, not}
+use mathlib.Core.Path.{_≡_, sym, ap, subst, _∙_}
+use mathlib.Core.Bool.{Bool, true, false}
 use mathlib.Core.List.{List, []}
-use Prim.Native.Nat.{ℕ, _+_, _*_, _^_, max, _≤_, _<_}
-use native.Mathlib.Nat.{mul-le-mul}
+use Prim.Native.Nat.{ℕ, _+_, _^_, _≤_, _<_}
 use native.Mathlib.Omega.{arith}
 use lib.ListN.{length}
-use lib.Dec.{leb, ltb, T}
-use Rattle.layout.specs.Limits.{mostStreams, longestName}
 use Rattle.layout.specs.Bytes.{pick}
-use Rattle.layout.specs.Blocks.{chain, enough}
+use Rattle.layout.specs.Blocks.{chain}
 use Rattle.layout.specs.Streams.{dataOf, contents, stream, streamBytes}
 use Rattle.layout.specs.Filing.{goodName, entries, entriesOf, lookIn}
 use Rattle.layout.specs.Header.{shapeOf, shiftOf}
@@ -18,16 +15,14 @@ use Rattle.layout.specs.Ranges.{Small}
 use Rattle.layout.specs.Answers.{counted}
 use Rattle.layout.specs.Calls.{rootOf, known, entryOf, indexOf, undescribed, room}
 use Rattle.laws.proofs.Lists.{In}
-use Rattle.laws.proofs.Tests.{Is, is-ltb}
+use Rattle.laws.proofs.Tests.{is-ltb}
 use Rattle.laws.proofs.State.{Whole, Core, livesOf}
 use Rattle.laws.proofs.Soundness.{sound}
 use Rattle.laws.proofs.Entries.{look-name}
 use Rattle.laws.proofs.Directories.{good-short}
 use Rattle.filing.specs.Located.{located}
 use Rattle.acts.specs.Fits.{Fits}
-use Rattle.acts.specs.Full.{fullTable}
 use Rattle.acts.proofs.Fitting.{fits, live-low, small}
-use Rattle.acts.proofs.Refusing.{enough-is, too-long, full-is}
 use Rattle.acts.proofs.Rooted.{found-is}
 use Rattle.acts.proofs.Sound.{root-live, index-live, entry-low, size-low as pulled-low}
 use Rattle.store.proofs.Outcomes.{none, past-1}

@@ -1,7 +1,7 @@
 -- The calls that take blocks: whether there is room, and what is done.
-use mathlib.Core.Path.{_≡_, refl, sym, ap, subst, _∙_}
+use mathlib.Core.Path.{_≡_, sym, ap, subst, _∙_}
 use mathlib.Core.Bool.{Bool, true, false, not}
-use mathlib.Core.List.{List, [], _∷_}
+use mathlib.Core.List.{List, []}
 use Prim.Native.Nat.{ℕ, _+_, _*_, _^_, max, _≤_, _<_}
 use native.Mathlib.Nat.{mul-le-mul}
 use native.Mathlib.Omega.{arith}
@@ -15,7 +15,7 @@ use Rattle.layout.specs.Filing.{goodName, entriesOf}
 use Rattle.layout.specs.Header.{shapeOf}
 use Rattle.layout.specs.Sound.{broken}
 use Rattle.layout.specs.Answers.{refused, done, counted}
-use Rattle.layout.specs.Calls.{known, unless, pastTheEnd, noRoom, streamsFull, sizeOf, indexOf, sizeAfterIn, writtenIn, written, createWantsIn, createWants, createdIn, created, write, create}
+use Rattle.layout.specs.Calls.{known, sizeOf, indexOf, sizeAfterIn, writtenIn, written, createWantsIn, createWants, createdIn, created, write, create}
 use Rattle.laws.proofs.State.{Core}
 use Rattle.filing.specs.Located.{located}
 use Rattle.acts.specs.Full.{fullTable}

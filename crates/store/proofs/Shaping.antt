@@ -1,20 +1,19 @@
 -- Whether a card of so many bytes can have such blocks, test by test.
-use mathlib.Core.Path.{_≡_, refl, sym, ap, _∙_}
+use mathlib.Core.Path.{_≡_, refl}
 use mathlib.Core.Bool.{Bool, true, false}
 use mathlib.Core.List.{List, []}
 use Prim.Native.Nat.{ℕ, _-_, _/_, _%_, _^_, _≤_, _<_}
-use native.Mathlib.Omega.{arith}
 use lib.ListN.{length}
-use lib.Dec.{leb, eqb, T}
+use lib.Dec.{leb, T}
 use borrow.Author.Tests.{eq-eqb, ne-eqb}
 use Rattle.layout.specs.Limits.{leastShift, mostShift}
-use Rattle.layout.specs.Bytes.{pick, both}
-use Rattle.layout.specs.Header.{headLength, shaped, goodShift, goodRest, goodShape}
+use Rattle.layout.specs.Bytes.{both}
+use Rattle.layout.specs.Header.{headLength, shaped, goodRest, goodShape}
 use Rattle.layout.specs.Answers.{refused, done}
 use Rattle.layout.specs.Calls.{formattedIn, formatted, format}
 use Rattle.layout.specs.Ranges.{Small}
 use Rattle.laws.proofs.Picks.{leb-yes, leb-no}
-use Rattle.laws.proofs.Tests.{Is, is-both, is-leb, is-itself}
+use Rattle.laws.proofs.Tests.{is-both, is-leb, is-itself}
 use Rattle.acts.proofs.Fitting.{new-small}
 use Rattle.layout.specs.declared.Shape.{Shape}
 

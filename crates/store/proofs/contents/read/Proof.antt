@@ -1,26 +1,17 @@
+-- `store::contents::read` keeps its promise.
 use borrow.Author.Tests.{not-true, not-false}
+use borrow.Author.Needs.{needs}
 use Rattle.layout.specs.Promises.{Reads}
 use Rattle.layout.specs.Calls.{read}
 use Rattle.store.proofs.Outcomes.{refuse-1, refuse-2}
 use Rattle.store.proofs.Passing.{shift-fits, small-of, root-low, name-fits, index-low}
 use Rattle.store.proofs.Named.{read-unknown, read-past, read-done}
-use borrow.Author.Needs.{needs}
 use Rattle.store.proofs.contents.read.Statement.{statement}
 use Rattle.store.proofs.contents.read.Tie as tie
-use Rattle.store.proofs.contents.read.Reads as reads
-use Rattle.store.proofs.contents.read.Lts as lts
-use Rattle.acts.proofs.read.read.Reads as read-reads
-use Rattle.acts.proofs.read.size.Reads as size-reads
-use Rattle.filing.proofs.names.good_name.Reads as good-name-reads
-use Rattle.sound.proofs.header.shape.Reads as shape-reads
-use Rattle.store.proofs.front.examine.Reads as examine-reads
-use Rattle.store.proofs.front.look.Reads as look-reads
 
--- src/contents.rt:39:9
 examine-requires : tie.Need-examine-requires
 examine-requires c κs = search needs
 
--- src/contents.rt:41:9
 returns : tie.Need-returns
 unfolding Reads read
 returns c =
@@ -28,11 +19,9 @@ returns c =
     let at-if1 = c .if1 in
     refuse-1 _ _ _ _ _ (at-examine .ensures) (at-if1 .taken)
 
--- src/contents.rt:43:9
 good-name-requires : tie.Need-good-name-requires
 good-name-requires c κs = search needs
 
--- src/contents.rt:44:9
 returns-2 : tie.Need-returns-2
 unfolding Reads read
 returns-2 c =
@@ -42,14 +31,12 @@ returns-2 c =
     let at-if2 = c .if2 in
     refuse-2 _ _ _ _ _ _ (at-examine .ensures) (at-if1 .left) _ (at-good-name .ensures) (not-true _ (at-if2 .taken))
 
--- src/contents.rt:46:9
 shape-requires : tie.Need-shape-requires
 shape-requires c κs =
     let at-examine = c .before .before .before .examine in
     let at-if1 = c .before .before .if1 in
     shift-fits _ _ (at-examine .ensures) (at-if1 .left)
 
--- src/contents.rt:47:9
 look-requires : tie.Need-look-requires
 look-requires c κs =
     let at-examine = c .before .before .before .before .examine in
@@ -59,7 +46,6 @@ look-requires c κs =
     let at-if2 = c .before .if2 in
     (small-of _ _ (at-examine .ensures) (at-if1 .left) _ (at-shape .ensures), root-low _ _ (at-examine .ensures) (at-if1 .left) _ (at-shape .ensures), name-fits _ _ (at-good-name .ensures) (not-false _ (at-if2 .left)))
 
--- src/contents.rt:49:9
 returns-3 : tie.Need-returns-3
 unfolding Reads
 returns-3 c =
@@ -72,7 +58,6 @@ returns-3 c =
     let at-if3 = c .if3 in
     read-unknown _ _ _ (at-examine .ensures) (at-if1 .left) _ (at-good-name .ensures) (not-false _ (at-if2 .left)) _ (at-shape .ensures) _ (at-look .ensures) (not-true _ (at-if3 .taken)) _ _
 
--- src/contents.rt:51:8
 size-requires : tie.Need-size-requires
 size-requires c κs =
     let at-examine = c .before .before .before .before .before .before .before .examine in
@@ -82,7 +67,6 @@ size-requires c κs =
     let at-if3 = c .if3 in
     (small-of _ _ (at-examine .ensures) (at-if1 .left) _ (at-shape .ensures), index-low _ _ (at-examine .ensures) (at-if1 .left) _ (at-shape .ensures) _ _ (at-look .ensures) (not-false _ (at-if3 .left)))
 
--- src/contents.rt:52:9
 returns-4 : tie.Need-returns-4
 unfolding Reads
 returns-4 c =
@@ -97,7 +81,6 @@ returns-4 c =
     let at-if4 = c .if4 in
     read-past _ _ _ (at-examine .ensures) (at-if1 .left) _ (at-good-name .ensures) (not-false _ (at-if2 .left)) _ (at-shape .ensures) _ (at-look .ensures) (not-false _ (at-if3 .left)) _ _ (at-size .ensures) (at-if4 .taken) _
 
--- src/contents.rt:54:20
 read-requires : tie.Need-read-requires
 read-requires c κs =
     let at-examine = c .before .before .before .before .before .before .before .before .before .before .examine in
@@ -107,11 +90,9 @@ read-requires c κs =
     let at-if3 = c .before .before .before .if3 in
     (small-of _ _ (at-examine .ensures) (at-if1 .left) _ (at-shape .ensures), index-low _ _ (at-examine .ensures) (at-if1 .left) _ (at-shape .ensures) _ _ (at-look .ensures) (not-false _ (at-if3 .left)))
 
--- src/contents.rt:36:1
 same-length : tie.Need-same-length
 same-length c = search needs
 
--- src/contents.rt:36:1
 returns-5 : tie.Need-returns-5
 unfolding Reads
 returns-5 c =

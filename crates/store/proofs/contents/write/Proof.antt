@@ -1,35 +1,24 @@
+-- `store::contents::write` keeps its promise.
 use borrow.Author.Tests.{not-true, not-false}
+use borrow.Author.Needs.{needs}
+use mathlib.Core.Path.{ap}
 use native.Mathlib.Omega.{arith}
+use Rattle.layout.specs.declared.Desc.{Desc}
 use Rattle.layout.specs.Promises.{Writes}
 use Rattle.layout.specs.Calls.{write}
 use Rattle.store.proofs.Outcomes.{refuse-1, refuse-2}
 use Rattle.store.proofs.Passing.{shift-fits, small-of, root-low, name-fits, index-low, size-fits}
 use Rattle.store.proofs.Named.{write-unknown, write-past}
 use Rattle.store.proofs.Roomy.{write-long, write-full, write-done}
-use borrow.Author.Needs.{needs}
 use Rattle.store.proofs.contents.write.Statement.{statement}
 use Rattle.store.proofs.contents.write.Tie as tie
-use Rattle.store.proofs.contents.write.Reads as reads
-use Rattle.store.proofs.contents.write.Lts as lts
-use Rattle.acts.proofs.room.has_room.Reads as has-room-reads
-use Rattle.acts.proofs.room.wants.Reads as wants-reads
-use Rattle.acts.proofs.write.write.Reads as write-reads
-use Rattle.filing.proofs.names.good_name.Reads as good-name-reads
-use Rattle.sound.proofs.header.shape.Reads as shape-reads
-use Rattle.store.proofs.front.examine.Reads as examine-reads
-use Rattle.store.proofs.front.larger.Reads as larger-reads
-use Rattle.store.proofs.front.look.Reads as look-reads
-use Rattle.stream.proofs.descs.stream.Reads as stream-reads
 
--- src/contents.rt:61:9
 examine-requires : tie.Need-examine-requires
 examine-requires c κs = search needs
 
--- src/contents.rt:63:9
 same-length : tie.Need-same-length
 same-length c = search needs
 
--- src/contents.rt:63:9
 returns : tie.Need-returns
 unfolding Writes write
 returns c =
@@ -37,15 +26,12 @@ returns c =
     let at-if1 = c .if1 in
     refuse-1 _ _ _ _ _ (at-examine .ensures) (at-if1 .taken)
 
--- src/contents.rt:65:9
 good-name-requires : tie.Need-good-name-requires
 good-name-requires c κs = search needs
 
--- src/contents.rt:66:9
 same-length-2 : tie.Need-same-length-2
 same-length-2 c = search needs
 
--- src/contents.rt:66:9
 returns-2 : tie.Need-returns-2
 unfolding Writes write
 returns-2 c =
@@ -55,14 +41,12 @@ returns-2 c =
     let at-if2 = c .if2 in
     refuse-2 _ _ _ _ _ _ (at-examine .ensures) (at-if1 .left) _ (at-good-name .ensures) (not-true _ (at-if2 .taken))
 
--- src/contents.rt:68:9
 shape-requires : tie.Need-shape-requires
 shape-requires c κs =
     let at-examine = c .before .before .before .before .examine in
     let at-if1 = c .before .before .before .if1 in
     shift-fits _ _ (at-examine .ensures) (at-if1 .left)
 
--- src/contents.rt:69:9
 look-requires : tie.Need-look-requires
 look-requires c κs =
     let at-examine = c .before .before .before .before .before .before .examine in
@@ -72,11 +56,9 @@ look-requires c κs =
     let at-if2 = c .before .before .before .if2 in
     (small-of _ _ (at-examine .ensures) (at-if1 .left) _ (at-shape .ensures), root-low _ _ (at-examine .ensures) (at-if1 .left) _ (at-shape .ensures), name-fits _ _ (at-good-name .ensures) (not-false _ (at-if2 .left)))
 
--- src/contents.rt:71:9
 same-length-3 : tie.Need-same-length-3
 same-length-3 c = search needs
 
--- src/contents.rt:71:9
 returns-3 : tie.Need-returns-3
 unfolding Writes
 returns-3 c =
@@ -89,7 +71,6 @@ returns-3 c =
     let at-if3 = c .if3 in
     write-unknown _ _ _ (at-examine .ensures) (at-if1 .left) _ (at-good-name .ensures) (not-false _ (at-if2 .left)) _ (at-shape .ensures) _ (at-look .ensures) (not-true _ (at-if3 .taken)) _ _
 
--- src/contents.rt:73:9
 stream-requires : tie.Need-stream-requires
 stream-requires c κs =
     let at-examine = c .before .before .before .before .before .before .before .before .before .before .examine in
@@ -99,11 +80,9 @@ stream-requires c κs =
     let at-if3 = c .before .if3 in
     (small-of _ _ (at-examine .ensures) (at-if1 .left) _ (at-shape .ensures), index-low _ _ (at-examine .ensures) (at-if1 .left) _ (at-shape .ensures) _ _ (at-look .ensures) (not-false _ (at-if3 .left)))
 
--- src/contents.rt:75:9
 same-length-4 : tie.Need-same-length-4
 same-length-4 c = search needs
 
--- src/contents.rt:75:9
 returns-4 : tie.Need-returns-4
 unfolding Writes
 returns-4 c =
@@ -118,11 +97,9 @@ returns-4 c =
     let at-if4 = c .if4 in
     write-past _ _ _ (at-examine .ensures) (at-if1 .left) _ (at-good-name .ensures) (not-false _ (at-if2 .left)) _ (at-shape .ensures) _ (at-look .ensures) (not-false _ (at-if3 .left)) _ _ (ap (λ (d : Desc). d .size) (at-stream .ensures)) (at-if4 .taken) _
 
--- src/contents.rt:79:9
 same-length-5 : tie.Need-same-length-5
 same-length-5 c = search needs
 
--- src/contents.rt:79:9
 returns-5 : tie.Need-returns-5
 unfolding Writes
 returns-5 c =
@@ -138,7 +115,6 @@ returns-5 c =
     let at-if5 = c .if5 in
     write-long _ _ _ (at-examine .ensures) (at-if1 .left) _ (at-good-name .ensures) (not-false _ (at-if2 .left)) _ (at-shape .ensures) _ (at-look .ensures) (not-false _ (at-if3 .left)) _ (at-stream .ensures) _ (at-if4 .left) _ (at-if5 .taken)
 
--- src/contents.rt:81:56
 add-larger : tie.Need-add-larger
 add-larger c =
     let at-if4 = c .before .before .if4 in
@@ -151,11 +127,9 @@ add-larger c =
     let at-stream = c .before .before .before .before .stream in
     omega (arith, at-if4 .left, at-if5 .left, size-fits _ _ (at-examine .ensures) (at-if1 .left) _ (at-shape .ensures) _ _ (at-look .ensures) (not-false _ (at-if3 .left)) _ (at-stream .ensures))
 
--- src/contents.rt:81:41
 larger-requires : tie.Need-larger-requires
 larger-requires c κs = search needs
 
--- src/contents.rt:81:29
 wants-requires : tie.Need-wants-requires
 wants-requires c κs =
     let at-examine = c .before .before .before .before .before .before .before .before .before .before .before .before .before .before .before .before .examine in
@@ -169,7 +143,6 @@ wants-requires c κs =
     let at-stream = c .before .before .before .before .before .stream in
     (small-of _ _ (at-examine .ensures) (at-if1 .left) _ (at-shape .ensures) .least, small-of _ _ (at-examine .ensures) (at-if1 .left) _ (at-shape .ensures) .most, omega (arith, at-larger .ensures, at-if4 .left, at-if5 .left, size-fits _ _ (at-examine .ensures) (at-if1 .left) _ (at-shape .ensures) _ _ (at-look .ensures) (not-false _ (at-if3 .left)) _ (at-stream .ensures)))
 
--- src/contents.rt:81:9
 has-room-requires : tie.Need-has-room-requires
 has-room-requires c κs =
     let at-examine = c .before .before .before .before .before .before .before .before .before .before .before .before .before .before .before .before .before .examine in
@@ -177,11 +150,9 @@ has-room-requires c κs =
     let at-shape = c .before .before .before .before .before .before .before .before .before .before .before .before .shape in
     small-of _ _ (at-examine .ensures) (at-if1 .left) _ (at-shape .ensures)
 
--- src/contents.rt:82:9
 same-length-6 : tie.Need-same-length-6
 same-length-6 c = search needs
 
--- src/contents.rt:82:9
 returns-6 : tie.Need-returns-6
 unfolding Writes
 returns-6 c =
@@ -200,7 +171,6 @@ returns-6 c =
     let at-if6 = c .if6 in
     write-full _ _ _ (at-examine .ensures) (at-if1 .left) _ (at-good-name .ensures) (not-false _ (at-if2 .left)) _ (at-shape .ensures) _ (at-look .ensures) (not-false _ (at-if3 .left)) _ (at-stream .ensures) _ (at-if4 .left) _ _ _ (at-larger .ensures) (at-wants .ensures .0) _ (at-has-room .ensures) (not-true _ (at-if6 .taken))
 
--- src/contents.rt:84:5
 write-requires : tie.Need-write-requires
 write-requires c κs =
     let at-examine = c .before .before .before .before .before .before .before .before .before .before .before .before .before .before .before .before .before .before .before .before .examine in
@@ -213,11 +183,9 @@ write-requires c κs =
     let at-stream = c .before .before .before .before .before .before .before .before .before .stream in
     (small-of _ _ (at-examine .ensures) (at-if1 .left) _ (at-shape .ensures), index-low _ _ (at-examine .ensures) (at-if1 .left) _ (at-shape .ensures) _ _ (at-look .ensures) (not-false _ (at-if3 .left)), omega (arith, at-if4 .left, at-if5 .left, size-fits _ _ (at-examine .ensures) (at-if1 .left) _ (at-shape .ensures) _ _ (at-look .ensures) (not-false _ (at-if3 .left)) _ (at-stream .ensures)))
 
--- src/contents.rt:58:1
 same-length-7 : tie.Need-same-length-7
 same-length-7 c = search needs
 
--- src/contents.rt:58:1
 returns-7 : tie.Need-returns-7
 unfolding Writes
 returns-7 c =

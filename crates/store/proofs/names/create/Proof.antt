@@ -1,33 +1,20 @@
+-- `store::names::create` keeps its promise.
 use borrow.Author.Tests.{not-true, not-false}
-use native.Mathlib.Omega.{arith}
+use borrow.Author.Needs.{needs}
 use Rattle.layout.specs.Promises.{Creates}
 use Rattle.layout.specs.Calls.{create}
 use Rattle.store.proofs.Outcomes.{refuse-1, refuse-2}
 use Rattle.store.proofs.Passing.{shift-fits, small-of, root-low, root-lower, fits-of, name-fits}
 use Rattle.store.proofs.Roomy.{create-known, create-full, create-cramped, create-done}
-use borrow.Author.Needs.{needs}
 use Rattle.store.proofs.names.create.Statement.{statement}
 use Rattle.store.proofs.names.create.Tie as tie
-use Rattle.store.proofs.names.create.Reads as reads
-use Rattle.store.proofs.names.create.Lts as lts
-use Rattle.acts.proofs.create.create.Reads as create-reads
-use Rattle.acts.proofs.create.create_wants.Reads as create-wants-reads
-use Rattle.acts.proofs.create.full.Reads as full-reads
-use Rattle.acts.proofs.room.has_room.Reads as has-room-reads
-use Rattle.filing.proofs.names.good_name.Reads as good-name-reads
-use Rattle.sound.proofs.header.shape.Reads as shape-reads
-use Rattle.store.proofs.front.examine.Reads as examine-reads
-use Rattle.store.proofs.front.look.Reads as look-reads
 
--- src/names.rt:20:9
 examine-requires : tie.Need-examine-requires
 examine-requires c κs = search needs
 
--- src/names.rt:22:9
 same-length : tie.Need-same-length
 same-length c = search needs
 
--- src/names.rt:22:9
 returns : tie.Need-returns
 unfolding Creates create
 returns c =
@@ -35,15 +22,12 @@ returns c =
     let at-if1 = c .if1 in
     refuse-1 _ _ _ _ _ (at-examine .ensures) (at-if1 .taken)
 
--- src/names.rt:24:9
 good-name-requires : tie.Need-good-name-requires
 good-name-requires c κs = search needs
 
--- src/names.rt:25:9
 same-length-2 : tie.Need-same-length-2
 same-length-2 c = search needs
 
--- src/names.rt:25:9
 returns-2 : tie.Need-returns-2
 unfolding Creates create
 returns-2 c =
@@ -53,14 +37,12 @@ returns-2 c =
     let at-if2 = c .if2 in
     refuse-2 _ _ _ _ _ _ (at-examine .ensures) (at-if1 .left) _ (at-good-name .ensures) (not-true _ (at-if2 .taken))
 
--- src/names.rt:27:9
 shape-requires : tie.Need-shape-requires
 shape-requires c κs =
     let at-examine = c .before .before .before .before .examine in
     let at-if1 = c .before .before .before .if1 in
     shift-fits _ _ (at-examine .ensures) (at-if1 .left)
 
--- src/names.rt:28:9
 look-requires : tie.Need-look-requires
 look-requires c κs =
     let at-examine = c .before .before .before .before .before .before .examine in
@@ -70,11 +52,9 @@ look-requires c κs =
     let at-if2 = c .before .before .before .if2 in
     (small-of _ _ (at-examine .ensures) (at-if1 .left) _ (at-shape .ensures), root-low _ _ (at-examine .ensures) (at-if1 .left) _ (at-shape .ensures), name-fits _ _ (at-good-name .ensures) (not-false _ (at-if2 .left)))
 
--- src/names.rt:30:9
 same-length-3 : tie.Need-same-length-3
 same-length-3 c = search needs
 
--- src/names.rt:30:9
 returns-3 : tie.Need-returns-3
 unfolding Creates
 returns-3 c =
@@ -87,7 +67,6 @@ returns-3 c =
     let at-if3 = c .if3 in
     create-known _ _ _ (at-examine .ensures) (at-if1 .left) _ (at-good-name .ensures) (not-false _ (at-if2 .left)) _ (at-shape .ensures) _ (at-look .ensures) (at-if3 .taken)
 
--- src/names.rt:32:8
 full-requires : tie.Need-full-requires
 full-requires c κs =
     let at-examine = c .before .before .before .before .before .before .before .before .before .examine in
@@ -95,11 +74,9 @@ full-requires c κs =
     let at-shape = c .before .before .before .before .shape in
     small-of _ _ (at-examine .ensures) (at-if1 .left) _ (at-shape .ensures)
 
--- src/names.rt:33:9
 same-length-4 : tie.Need-same-length-4
 same-length-4 c = search needs
 
--- src/names.rt:33:9
 returns-4 : tie.Need-returns-4
 unfolding Creates
 returns-4 c =
@@ -114,7 +91,6 @@ returns-4 c =
     let at-if4 = c .if4 in
     create-full _ _ _ (at-examine .ensures) (at-if1 .left) _ (at-good-name .ensures) (not-false _ (at-if2 .left)) _ (at-shape .ensures) _ (at-look .ensures) (at-if3 .left) _ (at-full .ensures) (at-if4 .taken)
 
--- src/names.rt:35:29
 create-wants-requires : tie.Need-create-wants-requires
 create-wants-requires c κs =
     let at-examine = c .before .before .before .before .before .before .before .before .before .before .before .before .examine in
@@ -124,7 +100,6 @@ create-wants-requires c κs =
     let at-if2 = c .before .before .before .before .before .before .before .before .before .if2 in
     (small-of _ _ (at-examine .ensures) (at-if1 .left) _ (at-shape .ensures), search needs, name-fits _ _ (at-good-name .ensures) (not-false _ (at-if2 .left)), fits-of _ _ (at-examine .ensures) (at-if1 .left) _ (at-shape .ensures) .table-size, root-lower _ _ (at-examine .ensures) (at-if1 .left) _ (at-shape .ensures))
 
--- src/names.rt:35:9
 has-room-requires : tie.Need-has-room-requires
 has-room-requires c κs =
     let at-examine = c .before .before .before .before .before .before .before .before .before .before .before .before .before .examine in
@@ -132,11 +107,9 @@ has-room-requires c κs =
     let at-shape = c .before .before .before .before .before .before .before .before .shape in
     small-of _ _ (at-examine .ensures) (at-if1 .left) _ (at-shape .ensures)
 
--- src/names.rt:36:9
 same-length-5 : tie.Need-same-length-5
 same-length-5 c = search needs
 
--- src/names.rt:36:9
 returns-5 : tie.Need-returns-5
 unfolding Creates
 returns-5 c =
@@ -154,7 +127,6 @@ returns-5 c =
     let at-if5 = c .if5 in
     create-cramped _ _ _ (at-examine .ensures) (at-if1 .left) _ (at-good-name .ensures) (not-false _ (at-if2 .left)) _ (at-shape .ensures) _ (at-look .ensures) (at-if3 .left) _ (at-full .ensures) (at-if4 .left) _ (at-create-wants .ensures) _ (at-has-room .ensures) (not-true _ (at-if5 .taken))
 
--- src/names.rt:38:5
 create-requires : tie.Need-create-requires
 create-requires c κs =
     let at-examine = c .before .before .before .before .before .before .before .before .before .before .before .before .before .before .before .before .examine in
@@ -164,11 +136,9 @@ create-requires c κs =
     let at-if2 = c .before .before .before .before .before .before .before .before .before .before .before .before .before .if2 in
     (small-of _ _ (at-examine .ensures) (at-if1 .left) _ (at-shape .ensures), fits-of _ _ (at-examine .ensures) (at-if1 .left) _ (at-shape .ensures), search needs, name-fits _ _ (at-good-name .ensures) (not-false _ (at-if2 .left)), root-lower _ _ (at-examine .ensures) (at-if1 .left) _ (at-shape .ensures))
 
--- src/names.rt:17:1
 same-length-6 : tie.Need-same-length-6
 same-length-6 c = search needs
 
--- src/names.rt:17:1
 returns-6 : tie.Need-returns-6
 unfolding Creates
 returns-6 c =

@@ -1,19 +1,15 @@
+-- `store::whole::check` keeps its promise.
+use borrow.Author.Needs.{needs}
+use mathlib.Core.Path.{_∙_}
 use Rattle.layout.specs.Promises.{Checks}
 use Rattle.layout.specs.Calls.{check}
-use mathlib.Core.Path.{_∙_}
 use Rattle.store.proofs.Outcomes.{none, refuse-1, past-1}
-use borrow.Author.Needs.{needs}
 use Rattle.store.proofs.whole.check.Statement.{statement}
 use Rattle.store.proofs.whole.check.Tie as tie
-use Rattle.store.proofs.whole.check.Reads as reads
-use Rattle.store.proofs.whole.check.Lts as lts
-use Rattle.store.proofs.front.examine.Reads as examine-reads
 
--- src/whole.rt:71:9
 examine-requires : tie.Need-examine-requires
 examine-requires c κs = search needs
 
--- src/whole.rt:73:9
 returns : tie.Need-returns
 unfolding Checks check
 returns c =
@@ -21,7 +17,6 @@ returns c =
     let at-if1 = c .if1 in
     refuse-1 _ _ _ _ _ (at-examine .ensures) (at-if1 .taken)
 
--- src/whole.rt:68:1
 returns-2 : tie.Need-returns-2
 unfolding Checks check
 returns-2 c =

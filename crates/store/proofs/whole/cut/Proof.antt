@@ -1,29 +1,22 @@
+-- `store::whole::cut` keeps its promise.
+use borrow.Author.Needs.{needs}
 use native.Mathlib.Omega.{arith}
 use Rattle.sound.proofs.Heading.{power-some}
 use Rattle.store.proofs.Shaping.{cut-is}
-use borrow.Author.Needs.{needs}
 use Rattle.store.proofs.whole.cut.Statement.{statement}
 use Rattle.store.proofs.whole.cut.Tie as tie
-use Rattle.store.proofs.whole.cut.Reads as reads
-use Rattle.store.proofs.whole.cut.Lts as lts
-use Rattle.memory.proofs.numbers.minus.Reads as minus-reads
-use Rattle.sound.proofs.header.power.Reads as power-reads
 
--- src/whole.rt:44:9
 power-requires : tie.Need-power-requires
 power-requires c κs = search needs
 
--- src/whole.rt:48:16
 minus-requires : tie.Need-minus-requires
 minus-requires c κs = search needs
 
--- src/whole.rt:48:16
 div-t5 : tie.Need-div-t5
 div-t5 c =
     let at-power = c .before .power in
     omega (arith, power-some _ _ (at-power .ensures))
 
--- src/whole.rt:40:1
 returns : tie.Need-returns
 returns c =
     let at-power = c .before .power in

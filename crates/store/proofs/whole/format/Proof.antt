@@ -1,20 +1,14 @@
+-- `store::whole::format` keeps its promise.
 use borrow.Author.Tests.{not-true, not-false}
+use borrow.Author.Needs.{needs}
 use Rattle.layout.specs.Promises.{Formats}
 use Rattle.store.proofs.Shaping.{shape-refused, new-fits, shift-fits, formatted-is}
-use borrow.Author.Needs.{needs}
 use Rattle.store.proofs.whole.format.Statement.{statement}
 use Rattle.store.proofs.whole.format.Tie as tie
-use Rattle.store.proofs.whole.format.Reads as reads
-use Rattle.store.proofs.whole.format.Lts as lts
-use Rattle.acts.proofs.format.format.Reads as format-reads
-use Rattle.store.proofs.whole.cut.Reads as cut-reads
-use Rattle.store.proofs.whole.good_shape.Reads as good-shape-reads
 
--- src/whole.rt:60:9
 good-shape-requires : tie.Need-good-shape-requires
 good-shape-requires c κs = search needs
 
--- src/whole.rt:61:9
 returns : tie.Need-returns
 unfolding Formats
 returns c =
@@ -22,7 +16,6 @@ returns c =
     let at-if1 = c .if1 in
     shape-refused _ _ _ (at-good-shape .ensures) (not-true _ (at-if1 .taken))
 
--- src/whole.rt:63:32
 cut-requires : tie.Need-cut-requires
 cut-requires c κs =
     let at-start = c .before .before .before .before in
@@ -30,7 +23,6 @@ cut-requires c κs =
     let at-if1 = c .before .if1 in
     shift-fits (at-start .args .card .now) _ _ (at-good-shape .ensures) (not-false _ (at-if1 .left))
 
--- src/whole.rt:63:5
 format-requires : tie.Need-format-requires
 format-requires c κs =
     let at-good-shape = c .before .before .before .good-shape in
@@ -38,11 +30,9 @@ format-requires c κs =
     let at-cut = c .cut in
     new-fits _ _ _ (at-good-shape .ensures) (not-false _ (at-if1 .left)) _ (at-cut .ensures)
 
--- src/whole.rt:56:1
 same-length : tie.Need-same-length
 same-length c = search needs
 
--- src/whole.rt:56:1
 returns-2 : tie.Need-returns-2
 unfolding Formats
 returns-2 c =

@@ -1,27 +1,21 @@
-use native.Mathlib.Omega.{arith}
+-- `store::whole::good_shape` keeps its promise.
+use borrow.Author.Needs.{needs}
 use Rattle.sound.proofs.Heading.{power-some}
 use Rattle.store.proofs.Shaping.{shift-low, shift-high, no-header, rest-part, rest-none, rest-last}
-use borrow.Author.Needs.{needs}
 use Rattle.store.proofs.whole.good_shape.Statement.{statement}
 use Rattle.store.proofs.whole.good_shape.Tie as tie
-use Rattle.store.proofs.whole.good_shape.Reads as reads
-use Rattle.store.proofs.whole.good_shape.Lts as lts
-use Rattle.sound.proofs.header.power.Reads as power-reads
 
--- src/whole.rt:20:9
 returns : tie.Need-returns
 returns c =
     let at-if1 = c .if1 in
     shift-low _ _ (at-if1 .taken)
 
--- src/whole.rt:23:9
 returns-2 : tie.Need-returns-2
 returns-2 c =
     let at-if1 = c .before .if1 in
     let at-if2 = c .if2 in
     shift-high _ _ (at-if1 .left) (at-if2 .taken)
 
--- src/whole.rt:26:9
 returns-3 : tie.Need-returns-3
 returns-3 c =
     let at-if1 = c .before .before .if1 in
@@ -29,17 +23,14 @@ returns-3 c =
     let at-if3 = c .if3 in
     no-header _ _ (at-if1 .left) (at-if2 .left) (at-if3 .taken)
 
--- src/whole.rt:28:9
 power-requires : tie.Need-power-requires
 power-requires c κs = search needs
 
--- src/whole.rt:30:8
 rem-if4 : tie.Need-rem-if4
 rem-if4 c =
     let at-power = c .power in
     power-some _ _ (at-power .ensures)
 
--- src/whole.rt:31:9
 returns-4 : tie.Need-returns-4
 returns-4 c =
     let at-if1 = c .before .before .before .before .if1 in
@@ -49,13 +40,11 @@ returns-4 c =
     let at-if4 = c .if4 in
     rest-part _ _ (at-if1 .left) (at-if2 .left) (at-if3 .left) _ (at-power .ensures) (at-if4 .taken)
 
--- src/whole.rt:33:8
 div-if5 : tie.Need-div-if5
 div-if5 c =
     let at-power = c .before .power in
     power-some _ _ (at-power .ensures)
 
--- src/whole.rt:34:9
 returns-5 : tie.Need-returns-5
 returns-5 c =
     let at-if1 = c .before .before .before .before .before .if1 in
@@ -66,13 +55,11 @@ returns-5 c =
     let at-if5 = c .if5 in
     rest-none _ _ (at-if1 .left) (at-if2 .left) (at-if3 .left) _ (at-power .ensures) (at-if4 .left) (at-if5 .taken)
 
--- src/whole.rt:36:5
 div-result : tie.Need-div-result
 div-result c =
     let at-power = c .before .before .power in
     power-some _ _ (at-power .ensures)
 
--- src/whole.rt:16:1
 returns-6 : tie.Need-returns-6
 returns-6 c =
     let at-if1 = c .before .before .before .before .before .if1 in
