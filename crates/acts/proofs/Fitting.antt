@@ -56,7 +56,7 @@ module _ (c : List ℕ) (s : Shape) (w : Core c s) where
   whole-low : s .count * s .size ≤ 4096 * 4096
   whole-low = omega (arith, mul-le-mul (count-few c s w) (size-few c s w))
 
-  right-low : (t : Desc) → Right s t → t .size ≤ 4096 * 4096
+  pub right-low : (t : Desc) → Right s t → t .size ≤ 4096 * 4096
   right-low t r = omega (arith, right-fits s (core-good c s w) t r, whole-low, mul-le-mul (r .fits) (let z : s .size ≤ s .size = omega arith in z))
 
   first-low : (o : ℕ) (xs : List ℕ) → Links (num 8 (tableBytes c s)) o xs → ((x : ℕ) → In x xs → x < 2 ^ 61) → o ≢ end8 → o < 2 ^ 61

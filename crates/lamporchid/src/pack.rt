@@ -1,0 +1,69 @@
+// An answer as one word. Each function asks that the word has room in 64 bits; the laws show that every call's answer has.
+use layout::answers::Counted;
+use layout::answers::Done;
+use layout::answers::Listed;
+use layout::answers::Refusal;
+use layout::answers::Sized;
+ghost use mathlib.Core.Path.{_≡_};
+ghost use mathlib.Core.List.{[]};
+ghost use Prim.Native.Nat.{_+_, _*_, _^_, _<_};
+ghost use Rattle.layout.specs.Answers.{numberOf, ruleOf, saidDone, saidCounted, saidSized, saidListed};
+ghost use Rattle.layout.specs.Words.{word};
+
+// A refusal's number, and above it DAMAGED's rule.
+fn refusal_word(refusal: Refusal) -> usize
+    requires { ⌜ numberOf refusal + 256 * ruleOf refusal < 2 ^ 64 ⌝ }
+    ensures { λ r. ⌜ r ≡ numberOf refusal + 256 * ruleOf refusal ⌝ }
+{
+    match refusal {
+        Refusal::Damaged(rule) => 1 + 256 * (rule as usize),
+        Refusal::BadName => 2,
+        Refusal::NotKnown => 3,
+        Refusal::AlreadyKnown => 4,
+        Refusal::PastTheEnd => 5,
+        Refusal::StreamsFull => 6,
+        Refusal::NoRoom => 7,
+        Refusal::ShortTray => 8,
+        Refusal::BadShape => 9,
+    }
+}
+
+pub fn done_word(answer: Done) -> usize
+    requires { ⌜ word (saidDone answer [] []) < 2 ^ 64 ⌝ }
+    ensures { λ r. ⌜ r ≡ word (saidDone answer [] []) ⌝ }
+{
+    match answer {
+        Done::Done => 0,
+        Done::Refused(refusal) => refusal_word(refusal),
+    }
+}
+
+pub fn counted_word(answer: Counted) -> usize
+    requires { ⌜ word (saidCounted answer [] []) < 2 ^ 64 ⌝ }
+    ensures { λ r. ⌜ r ≡ word (saidCounted answer [] []) ⌝ }
+{
+    match answer {
+        Counted::Count(n) => 0x1_0000 * n,
+        Counted::Refused(refusal) => refusal_word(refusal),
+    }
+}
+
+pub fn sized_word(answer: Sized) -> usize
+    requires { ⌜ word (saidSized answer [] []) < 2 ^ 64 ⌝ }
+    ensures { λ r. ⌜ r ≡ word (saidSized answer [] []) ⌝ }
+{
+    match answer {
+        Sized::Size(n) => 0x1_0000 * n,
+        Sized::Refused(refusal) => refusal_word(refusal),
+    }
+}
+
+pub fn listed_word(answer: Listed) -> usize
+    requires { ⌜ word (saidListed answer [] []) < 2 ^ 64 ⌝ }
+    ensures { λ r. ⌜ r ≡ word (saidListed answer [] []) ⌝ }
+{
+    match answer {
+        Listed::Entry { length, size } => 256 * length + 0x1_0000 * size,
+        Listed::Refused(refusal) => refusal_word(refusal),
+    }
+}
