@@ -1,4 +1,5 @@
-// An answer as one word. Each function asks that the word has room in 64 bits; the laws show that every call's answer has.
+// An answer as one word. Where it holds a count or a size, the word must have room in 64 bits; proofs/Packing shows that it has,
+// whatever the call.
 use layout::answers::Counted;
 use layout::answers::Done;
 use layout::answers::Listed;
@@ -12,7 +13,6 @@ ghost use Rattle.layout.specs.Words.{word};
 
 // A refusal's number, and above it DAMAGED's rule.
 fn refusal_word(refusal: Refusal) -> usize
-    requires { ⌜ numberOf refusal + 256 * ruleOf refusal < 2 ^ 64 ⌝ }
     ensures { λ r. ⌜ r ≡ numberOf refusal + 256 * ruleOf refusal ⌝ }
 {
     match refusal {
@@ -29,7 +29,6 @@ fn refusal_word(refusal: Refusal) -> usize
 }
 
 pub fn done_word(answer: Done) -> usize
-    requires { ⌜ word (saidDone answer [] []) < 2 ^ 64 ⌝ }
     ensures { λ r. ⌜ r ≡ word (saidDone answer [] []) ⌝ }
 {
     match answer {

@@ -1,26 +1,23 @@
+-- `lamporchid::lamporchid_create` keeps its promise.
 use borrow.Author.Needs.{needs}
+use Rattle.lamporchid.proofs.Told.{create-told}
 use Rattle.lamporchid.proofs.lamporchid_create.Statement.{statement}
 use Rattle.lamporchid.proofs.lamporchid_create.Tie as tie
-use Rattle.lamporchid.proofs.lamporchid_create.Reads as reads
-use Rattle.lamporchid.proofs.lamporchid_create.Lts as lts
-use Rattle.lamporchid.proofs.pack.done_word.Reads as done-word-reads
-use Rattle.store.proofs.names.create.Reads as create-reads
 
--- src/lib.rt:37:15
 create-requires : tie.Need-create-requires
 create-requires c κs = search needs
 
--- src/lib.rt:37:5
 done-word-requires : tie.Need-done-word-requires
-done-word-requires c κs = ?
+done-word-requires c κs = search needs
 
--- src/lib.rt:33:1
 same-length : tie.Need-same-length
 same-length c = search needs
 
--- src/lib.rt:33:1
 returns : tie.Need-returns
-returns c = ?
+returns c =
+    let at-create = c .before .before .before .create in
+    let at-done-word = c .done-word in
+    create-told _ _ _ _ _ (at-create .ensures) (at-done-word .ensures)
 
 pub lamporchid-create-spec : {M : Type 1} → statement M
 lamporchid-create-spec =

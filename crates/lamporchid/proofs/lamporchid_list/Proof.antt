@@ -1,26 +1,25 @@
+-- `lamporchid::lamporchid_list` keeps its promise.
 use borrow.Author.Needs.{needs}
+use Rattle.lamporchid.proofs.Told.{list-low, list-told}
 use Rattle.lamporchid.proofs.lamporchid_list.Statement.{statement}
 use Rattle.lamporchid.proofs.lamporchid_list.Tie as tie
-use Rattle.lamporchid.proofs.lamporchid_list.Reads as reads
-use Rattle.lamporchid.proofs.lamporchid_list.Lts as lts
-use Rattle.lamporchid.proofs.pack.listed_word.Reads as listed-word-reads
-use Rattle.store.proofs.names.list.Reads as list-reads
 
--- src/lib.rt:92:17
 list-requires : tie.Need-list-requires
 list-requires c κs = search needs
 
--- src/lib.rt:92:5
 listed-word-requires : tie.Need-listed-word-requires
-listed-word-requires c κs = ?
+listed-word-requires c κs =
+    let at-list = c .before .before .list in
+    list-low _ _ _ _ _ (at-list .ensures)
 
--- src/lib.rt:88:1
 same-length : tie.Need-same-length
 same-length c = search needs
 
--- src/lib.rt:88:1
 returns : tie.Need-returns
-returns c = ?
+returns c =
+    let at-list = c .before .before .before .list in
+    let at-listed-word = c .listed-word in
+    list-told _ _ _ _ _ (at-list .ensures) _ (at-listed-word .ensures)
 
 pub lamporchid-list-spec : {M : Type 1} → statement M
 lamporchid-list-spec = tie.close (tie.spec list-requires listed-word-requires same-length returns)

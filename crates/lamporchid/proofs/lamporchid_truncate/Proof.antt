@@ -1,26 +1,23 @@
+-- `lamporchid::lamporchid_truncate` keeps its promise.
 use borrow.Author.Needs.{needs}
+use Rattle.lamporchid.proofs.Told.{truncate-told}
 use Rattle.lamporchid.proofs.lamporchid_truncate.Statement.{statement}
 use Rattle.lamporchid.proofs.lamporchid_truncate.Tie as tie
-use Rattle.lamporchid.proofs.lamporchid_truncate.Reads as reads
-use Rattle.lamporchid.proofs.lamporchid_truncate.Lts as lts
-use Rattle.lamporchid.proofs.pack.done_word.Reads as done-word-reads
-use Rattle.store.proofs.contents.truncate.Reads as truncate-reads
 
--- src/lib.rt:78:15
 truncate-requires : tie.Need-truncate-requires
 truncate-requires c κs = search needs
 
--- src/lib.rt:78:5
 done-word-requires : tie.Need-done-word-requires
-done-word-requires c κs = ?
+done-word-requires c κs = search needs
 
--- src/lib.rt:73:1
 same-length : tie.Need-same-length
 same-length c = search needs
 
--- src/lib.rt:73:1
 returns : tie.Need-returns
-returns c = ?
+returns c =
+    let at-truncate = c .before .before .before .truncate in
+    let at-done-word = c .done-word in
+    truncate-told _ _ _ _ _ _ (at-truncate .ensures) (at-done-word .ensures)
 
 pub lamporchid-truncate-spec : {M : Type 1} → statement M
 lamporchid-truncate-spec =

@@ -1,26 +1,25 @@
+-- `lamporchid::lamporchid_write` keeps its promise.
 use borrow.Author.Needs.{needs}
+use Rattle.lamporchid.proofs.Told.{write-low, write-told}
 use Rattle.lamporchid.proofs.lamporchid_write.Statement.{statement}
 use Rattle.lamporchid.proofs.lamporchid_write.Tie as tie
-use Rattle.lamporchid.proofs.lamporchid_write.Reads as reads
-use Rattle.lamporchid.proofs.lamporchid_write.Lts as lts
-use Rattle.lamporchid.proofs.pack.counted_word.Reads as counted-word-reads
-use Rattle.store.proofs.contents.write.Reads as write-reads
 
--- src/lib.rt:57:18
 write-requires : tie.Need-write-requires
 write-requires c κs = search needs
 
--- src/lib.rt:57:5
 counted-word-requires : tie.Need-counted-word-requires
-counted-word-requires c κs = ?
+counted-word-requires c κs =
+    let at-write = c .before .before .write in
+    write-low _ _ _ _ _ _ (at-write .ensures)
 
--- src/lib.rt:47:1
 same-length : tie.Need-same-length
 same-length c = search needs
 
--- src/lib.rt:47:1
 returns : tie.Need-returns
-returns c = ?
+returns c =
+    let at-write = c .before .before .before .write in
+    let at-counted-word = c .counted-word in
+    write-told _ _ _ _ _ _ (at-write .ensures) _ (at-counted-word .ensures)
 
 pub lamporchid-write-spec : {M : Type 1} → statement M
 lamporchid-write-spec =

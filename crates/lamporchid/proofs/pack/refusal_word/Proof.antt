@@ -1,92 +1,88 @@
+-- `lamporchid::pack::refusal_word` keeps its promise.
 use borrow.Author.Needs.{needs}
 use Rattle.lamporchid.proofs.pack.refusal_word.Statement.{statement}
 use Rattle.lamporchid.proofs.pack.refusal_word.Tie as tie
-use Rattle.lamporchid.proofs.pack.refusal_word.Reads as reads
-use Rattle.lamporchid.proofs.pack.refusal_word.Lts as lts
 
--- src/pack.rt:19:26
 enum-known-refusal : tie.Need-enum-known-refusal
 enum-known-refusal c = search needs
 
--- src/pack.rt:19:46
 cast-result : tie.Need-cast-result
 cast-result c = search needs
 
--- src/pack.rt:19:39
 mul-result : tie.Need-mul-result
 mul-result c = search needs
 
--- src/pack.rt:19:35
 add-result : tie.Need-add-result
 add-result c = search needs
 
--- src/pack.rt:20:29
 enum-told : tie.Need-enum-told
 enum-told c = search needs
 
--- src/pack.rt:21:30
 enum-told-2 : tie.Need-enum-told-2
 enum-told-2 c = search needs
 
--- src/pack.rt:22:34
 enum-told-3 : tie.Need-enum-told-3
 enum-told-3 c = search needs
 
--- src/pack.rt:23:32
 enum-told-4 : tie.Need-enum-told-4
 enum-told-4 c = search needs
 
--- src/pack.rt:24:33
 enum-told-5 : tie.Need-enum-told-5
 enum-told-5 c = search needs
 
--- src/pack.rt:25:28
 enum-told-6 : tie.Need-enum-told-6
 enum-told-6 c = search needs
 
--- src/pack.rt:26:31
 enum-told-7 : tie.Need-enum-told-7
 enum-told-7 c = search needs
 
--- src/pack.rt:27:30
 enum-told-8 : tie.Need-enum-told-8
 enum-told-8 c = search needs
 
--- src/pack.rt:14:1
 returns : tie.Need-returns
-returns c = ?
+returns c =
+    let at-refusal = c .before .refusal in
+    rw (at-refusal .given .1)
 
--- src/pack.rt:14:1
 returns-2 : tie.Need-returns-2
-returns-2 c = ?
+returns-2 c =
+    let at-enum-told = c .enum-told in
+    rw (at-enum-told .given .1)
 
--- src/pack.rt:14:1
 returns-3 : tie.Need-returns-3
-returns-3 c = ?
+returns-3 c =
+    let at-enum-told2 = c .enum-told2 in
+    rw (at-enum-told2 .given .1)
 
--- src/pack.rt:14:1
 returns-4 : tie.Need-returns-4
-returns-4 c = ?
+returns-4 c =
+    let at-enum-told3 = c .enum-told3 in
+    rw (at-enum-told3 .given .1)
 
--- src/pack.rt:14:1
 returns-5 : tie.Need-returns-5
-returns-5 c = ?
+returns-5 c =
+    let at-enum-told4 = c .enum-told4 in
+    rw (at-enum-told4 .given .1)
 
--- src/pack.rt:14:1
 returns-6 : tie.Need-returns-6
-returns-6 c = ?
+returns-6 c =
+    let at-enum-told5 = c .enum-told5 in
+    rw (at-enum-told5 .given .1)
 
--- src/pack.rt:14:1
 returns-7 : tie.Need-returns-7
-returns-7 c = ?
+returns-7 c =
+    let at-enum-told6 = c .enum-told6 in
+    rw (at-enum-told6 .given .1)
 
--- src/pack.rt:14:1
 returns-8 : tie.Need-returns-8
-returns-8 c = ?
+returns-8 c =
+    let at-enum-told7 = c .enum-told7 in
+    rw (at-enum-told7 .given .1)
 
--- src/pack.rt:14:1
 returns-9 : tie.Need-returns-9
-returns-9 c = ?
+returns-9 c =
+    let at-enum-told8 = c .enum-told8 in
+    rw (at-enum-told8 .given .1)
 
 pub refusal-word-spec : {M : Type 1} → statement M
 refusal-word-spec =
