@@ -178,10 +178,10 @@ list-packed c k tray =
     let short = first-low (ltb (length tray) 64) 8 [] (omega arith) no-test in
     unless-packed c tray _ _ (low-1 c tests (first-low (leb (length (rootOf c)) k) 5 (shortTray tray ∷ []) (omega arith) short))
     (λ e.
-      let w = whole c tests e in
-      let there : k < length (rootOf c) = leb-false (length (rootOf c)) k (first-none (leb (length (rootOf c)) k) 5 (shortTray tray ∷ []) (omega arith) (rest c tests e .1) .0) in
-      record {
-        number = omega arith;
-        rule-or-length = omega (arith, name-low c w k there);
-        count-or-size = omega (arith, size-low c w (getD (rootOf c) k nothing .index) (index-live c w k there));
-      })
+    let w = whole c tests e in
+    let there : k < length (rootOf c) = leb-false (length (rootOf c)) k (first-none (leb (length (rootOf c)) k) 5 (shortTray tray ∷ []) (omega arith) (rest c tests e .1) .0) in
+    record {
+      number = omega arith;
+      rule-or-length = omega (arith, name-low c w k there);
+      count-or-size = omega (arith, size-low c w (getD (rootOf c) k nothing .index) (index-live c w k there));
+    })

@@ -22,7 +22,7 @@ module _ (o : Outcome) (p : Packed o) where
   unfolding word
   word-low = omega (arith, p .number, p .rule-or-length, p .count-or-size)
 
-  pub number-of : word o % 256 ≡ o .number
+  number-of : word o % 256 ≡ o .number
   unfolding word
   number-of =
       let r : word o % 256 < 256 = mod-lt (word o) (omega arith) in
@@ -34,16 +34,20 @@ module _ (o : Outcome) (p : Packed o) where
       let r : word o % 256 < 256 = mod-lt (word o) (omega arith) in
       omega (arith, p .number, div-add-mod' (word o) 256)
 
-  pub small-of : word o / 256 % 256 ≡ small o
+  small-of : word o / 256 % 256 ≡ small o
   small-of =
       let r : word o / 256 % 256 < 256 = mod-lt (word o / 256) (omega arith) in
       omega (arith, above, p .rule-or-length, div-add-mod' (word o / 256) 256)
 
-  pub large-of : word o / 65536 ≡ large o
+  large-of : word o / 65536 ≡ large o
   unfolding word
   large-of =
       let r : word o % 65536 < 65536 = mod-lt (word o) (omega arith) in
       omega (arith, p .number, p .rule-or-length, div-add-mod' (word o) 65536)
+
+  -- whoever has the word has the numbers
+  pub parted : (word o % 256 ≡ o .number) × (word o / 256 % 256 ≡ small o) × (word o / 65536 ≡ large o)
+  parted = (number-of, small-of, large-of)
 
 -- ---- refusals
 

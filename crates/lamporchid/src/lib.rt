@@ -58,12 +58,7 @@ pub extern "C" fn lamporchid_write(
 }
 
 #[no_mangle]
-pub extern "C" fn lamporchid_read(
-    card: &[u8],
-    name: &[u8],
-    place: usize,
-    tray: &mut [u8],
-) -> usize
+pub extern "C" fn lamporchid_read(card: &[u8], name: &[u8], place: usize, tray: &mut [u8]) -> usize
     ensures { λ r. ⌜ (r ≡ word (read (now (card .entry)) (now (name .entry)) place (now (tray .entry))))
         × (now (tray .exit) ≡ read (now (card .entry)) (now (name .entry)) place (now (tray .entry)) .tray) ⌝ }
 {
