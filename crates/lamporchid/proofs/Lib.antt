@@ -2,3 +2,4 @@ pub mod Packing
 pub mod Bounds
 pub mod Cased
 pub mod Told
+pub mod Parting
