@@ -313,21 +313,9 @@ fn streaming(cut: Cut, d: usize, h: usize) {
     );
 }
 
-/// A card with so many streams, every name of so many bytes, and a few bytes in each stream.
-fn filled(s: u64, blocks: usize, streams: usize, length: usize) -> Vec<u8> {
-    let mut card = vec![0; 87 + blocks * (1 << s)];
-    assert!(second::format(&mut card, s).is_done());
-    for k in 0..streams {
-        let name = format!("{k:0length$}");
-        assert!(second::create(&mut card, name.as_bytes()).is_done());
-        assert!(second::write(&mut card, name.as_bytes(), 0, &[7; 100]).is_done());
-    }
-    card
-}
-
 /// The check of a whole card, against `second`, which keeps its marks in a vector and its names in a hash set.
 fn checking(s: u64, blocks: usize, streams: usize, length: usize) {
-    let mut card = filled(s, blocks, streams, length);
+    let mut card = second::generator::filled(s, blocks, streams, length);
     assert!(ours::check(&card) == 0 && second::check(&card).is_done());
     row(
         &format!("check: {blocks} blocks, {streams} names of {length}"),

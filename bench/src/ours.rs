@@ -7,7 +7,6 @@ mod archive {
     extern "C" {
         pub fn bench_clear(card: *mut u8, len: usize, at: usize, n: usize);
         pub fn bench_check(card: *const u8, len: usize) -> usize;
-        pub fn bench_check_wide(card: *const u8, len: usize) -> usize;
         pub fn bench_copy(
             dst: *mut u8,
             len: usize,
@@ -294,9 +293,4 @@ pub fn lay(card: &mut [u8], cut: Cut, top: usize, h: usize, p: usize, given: &[u
 /// The lowest broken rule, 0 where there is none. It asks nothing of the bytes.
 pub fn check(card: &[u8]) -> usize {
     unsafe { archive::bench_check(card.as_ptr(), card.len()) }
-}
-
-/// The same with 65,536 marks on the stack.
-pub fn check_wide(card: &[u8]) -> usize {
-    unsafe { archive::bench_check_wide(card.as_ptr(), card.len()) }
 }

@@ -32,3 +32,4 @@ pub mod Deciding
 pub mod Keeping
 pub mod Pulling
 pub mod Meets3
+pub mod Exact

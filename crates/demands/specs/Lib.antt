@@ -7,3 +7,4 @@ pub mod Owners
 pub mod Parts
 pub mod Demand2
 pub mod Demand3
+pub mod Exact

@@ -21,3 +21,17 @@ pub mod oracle;
 pub mod plain;
 pub mod runs;
 pub mod scramble;
+
+/// A card with blocks of 2^s bytes and so many streams, with names of `length` bytes and 100 bytes in each.
+///
+/// Panics where they do not fit: it is for tests and benchmarks.
+pub fn filled(s: u64, blocks: usize, streams: usize, length: usize) -> Vec<u8> {
+    let mut card = vec![0; 87 + blocks * (1 << s)];
+    assert!(crate::format(&mut card, s).is_done());
+    for k in 0..streams {
+        let name = format!("{k:0length$}");
+        assert!(crate::create(&mut card, name.as_bytes()).is_done());
+        assert!(crate::write(&mut card, name.as_bytes(), 0, &[7; 100]).is_done());
+    }
+    card
+}
