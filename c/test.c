@@ -127,10 +127,10 @@ static void nothing(void)
     expect_true("so is the tray", tray[0] == 1 && tray[63] == 1);
 }
 
-/* The largest card: 4,096 blocks of 4,096 bytes, all names that it holds, one stream over most of its blocks. */
-static void large_card(void)
+/* A card of 4,096 blocks of 2 to the s bytes: all names that it holds, and one stream of so many data blocks, with `above` blocks over them. */
+static void large_card(uint64_t s, uint64_t blocks, uint64_t above)
 {
-    const uint64_t length = 87 + 4096 * 4096ull, most = 4000 * 4096ull;
+    const uint64_t length = 87 + (4096ull << s), most = blocks << s;
     uint8_t *card = calloc(1, length), *data = malloc(most), *tray = calloc(1, most);
     uint8_t name[64];
     uint64_t free_blocks;
@@ -142,7 +142,7 @@ static void large_card(void)
     for (uint64_t j = 0; j < most; j++)
         data[j] = (uint8_t)(j * 31 + j / 4096);
 
-    expect("format", lamporchid_format(card, length, 12), LAMPORCHID_DONE, 0, 0);
+    expect("format", lamporchid_format(card, length, s), LAMPORCHID_DONE, 0, 0);
     memset(name, 'n', sizeof name);
     for (i = 0; i < 255; i++) {
         name[63] = (uint8_t)(i < 47 ? i : i + 1);
@@ -153,7 +153,7 @@ static void large_card(void)
     name[63] = 0;
     free_blocks = lamporchid_count(lamporchid_room(card, length));
     expect("write", lamporchid_write(card, length, name, 64, 0, data, most), LAMPORCHID_DONE, 0, most);
-    expect("4,000 data blocks and 5 above", lamporchid_room(card, length), LAMPORCHID_DONE, 0, free_blocks - 4005);
+    expect("the data blocks and those above", lamporchid_room(card, length), LAMPORCHID_DONE, 0, free_blocks - blocks - above);
     expect("size", lamporchid_size(card, length, name, 64), LAMPORCHID_DONE, 0, most);
     expect("read", lamporchid_read(card, length, name, 64, 0, tray, most), LAMPORCHID_DONE, 0, most);
     expect_true("the same bytes", memcmp(data, tray, most) == 0);
@@ -163,9 +163,10 @@ static void large_card(void)
     expect("truncate", lamporchid_truncate(card, length, name, 64, 1), LAMPORCHID_DONE, 0, 0);
     expect("write again", lamporchid_write(card, length, name, 64, 1, data, most - 1), LAMPORCHID_DONE, 0, most - 1);
     expect("delete", lamporchid_delete(card, length, name, 64), LAMPORCHID_DONE, 0, 0);
+    expect("create again", lamporchid_create(card, length, name, 64), LAMPORCHID_DONE, 0, 0);
     expect("all that it had is free", lamporchid_room(card, length), LAMPORCHID_DONE, 0, free_blocks);
     expect("check", lamporchid_check(card, length), LAMPORCHID_DONE, 0, 0);
-    card[length - 4096] = 1;
+    card[length - (1ull << s)] = 1;
     expect("a chain that is wrong near its end", lamporchid_check(card, length), LAMPORCHID_DAMAGED, 7, 0);
     free(card);
     free(data);
@@ -176,7 +177,8 @@ static void *all(void *unused)
 {
     small_card();
     nothing();
-    large_card();
+    large_card(12, 4000, 5);
+    large_card(6, 3400, 228);
     return unused;
 }
 

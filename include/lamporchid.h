@@ -5,8 +5,8 @@
  *
  * What you may hand over
  *   Any bytes as card, name, data and tray, of any length, and any number. A call examines the card itself, every time.
- *   Each pointer must be good for its whole length: readable where it is const, else readable and writable, and no other
- *   thread may change those bytes while the call runs.
+ *   Each pointer must be good for its whole length, which is below 2 to the 63: readable where it is const, else readable
+ *   and writable; and no other thread may change those bytes while the call runs.
  *   Card, name, data and tray of one call must not overlap, where one of them is written (card without const, tray).
  *   A slice of length 0 is empty, and nothing is read or written through its pointer: NULL will do.
  *
