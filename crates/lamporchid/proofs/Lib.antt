@@ -3,3 +3,4 @@ pub mod Bounds
 pub mod Cased
 pub mod Told
 pub mod Parting
+pub mod Sharing

@@ -8,7 +8,7 @@ use Rattle.layout.specs.Calls.{format, check, room, create, write, read, trunca
 use Rattle.lamporchid.proofs.Packing.{parted}
 use Rattle.lamporchid.proofs.Bounds.{format-packed, check-packed, room-packed, create-packed, write-packed, read-packed, truncate-packed, delete-packed, size-packed, list-packed}
 
-abbrev Parted : Outcome → Type 0
+abbrev pub Parted : Outcome → Type 0
 Parted o = (word o % 256 ≡ o .number) × (word o / 256 % 256 ≡ small o) × (word o / 65536 ≡ large o)
 
 -- n is a shift, a place, a length or an entry's number, as the call has it; vs is the data or the tray
