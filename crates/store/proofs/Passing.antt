@@ -7,8 +7,8 @@ use native.Mathlib.Omega.{arith}
 use lib.ListN.{length}
 use Rattle.layout.specs.Bytes.{pick}
 use Rattle.layout.specs.Blocks.{chain}
-use Rattle.layout.specs.Streams.{dataOf, contents, stream, streamBytes}
-use Rattle.layout.specs.Filing.{goodName, entries, entriesOf, lookIn}
+use Rattle.layout.specs.Streams.{stream}
+use Rattle.layout.specs.Filing.{goodName, entriesOf, lookIn}
 use Rattle.layout.specs.Header.{shapeOf, shiftOf}
 use Rattle.layout.specs.Sound.{rule1, rule2, rule3, rule4, rule5, rule6, rule7, rule8, broken}
 use Rattle.layout.specs.Ranges.{Small}
@@ -115,7 +115,3 @@ module _ (c : List ℕ) (rule : ℕ) (e : rule ≡ broken c) (z : rule ≡ 0) wh
 
 pub root-size : (c : List ℕ) (s : Shape) (t : Desc) → t ≡ stream c s 0 → stream c s 0 .size < 2 ^ 62 → t .size < 2 ^ 62
 root-size c s t e h = rw e h
-
-pub looked : (c : List ℕ) (s : Shape) (name : List ℕ) (t : Desc) (x : Found) → t ≡ stream c s 0 → x ≡ located (entries (contents c s (t .top) (dataOf s t) (t .size))) name 0 → x ≡ located (entriesOf c s 0) name 0
-unfolding entriesOf streamBytes
-looked c s name t x e f = f ∙ rw e

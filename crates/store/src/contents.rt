@@ -1,9 +1,9 @@
 // The calls on a stream's bytes: size, read, write, truncate.
 use crate::front::examine;
 use crate::front::larger;
-use crate::front::look;
 use acts::room::has_room;
 use acts::room::wants;
+use filing::entries::look_up;
 use filing::names::good_name;
 use layout::answers::Counted;
 use layout::answers::Done;
@@ -25,7 +25,7 @@ pub fn size(card: &[u8], name: &[u8]) -> Sized
         return Sized::Refused(Refusal::BadName);
     }
     let s = shape(card);
-    let f = look(card, s, name);
+    let f = look_up(card, s, 0, name);
     if !f.known {
         return Sized::Refused(Refusal::NotKnown);
     }
@@ -44,7 +44,7 @@ pub fn read(card: &[u8], name: &[u8], place: usize, tray: &mut [u8]) -> Counted
         return Counted::Refused(Refusal::BadName);
     }
     let s = shape(card);
-    let f = look(card, s, name);
+    let f = look_up(card, s, 0, name);
     if !f.known {
         return Counted::Refused(Refusal::NotKnown);
     }
@@ -66,7 +66,7 @@ pub fn write(card: &mut [u8], name: &[u8], place: usize, given: &[u8]) -> Counte
         return Counted::Refused(Refusal::BadName);
     }
     let s = shape(&*card);
-    let f = look(&*card, s, name);
+    let f = look_up(&*card, s, 0, name);
     if !f.known {
         return Counted::Refused(Refusal::NotKnown);
     }
@@ -97,7 +97,7 @@ pub fn truncate(card: &mut [u8], name: &[u8], n: usize) -> Done
         return Done::Refused(Refusal::BadName);
     }
     let s = shape(&*card);
-    let f = look(&*card, s, name);
+    let f = look_up(&*card, s, 0, name);
     if !f.known {
         return Done::Refused(Refusal::NotKnown);
     }

@@ -1,9 +1,9 @@
 // The calls on the root: create, delete, list.
 use crate::front::examine;
-use crate::front::look;
 use acts::create::create_wants;
 use acts::create::full;
 use acts::room::has_room;
+use filing::entries::look_up;
 use filing::listing::nth_entry;
 use filing::names::good_name;
 use layout::answers::Done;
@@ -25,7 +25,7 @@ pub fn create(card: &mut [u8], name: &[u8]) -> Done
         return Done::Refused(Refusal::BadName);
     }
     let s = shape(&*card);
-    let f = look(&*card, s, name);
+    let f = look_up(&*card, s, 0, name);
     if f.known {
         return Done::Refused(Refusal::AlreadyKnown);
     }
@@ -51,7 +51,7 @@ pub fn delete(card: &mut [u8], name: &[u8]) -> Done
         return Done::Refused(Refusal::BadName);
     }
     let s = shape(&*card);
-    let f = look(&*card, s, name);
+    let f = look_up(&*card, s, 0, name);
     if !f.known {
         return Done::Refused(Refusal::NotKnown);
     }

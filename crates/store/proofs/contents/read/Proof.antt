@@ -37,14 +37,14 @@ shape-requires c κs =
     let at-if1 = c .before .before .if1 in
     shift-fits _ _ (at-examine .ensures) (at-if1 .left)
 
-look-requires : tie.Need-look-requires
-look-requires c κs =
+look-up-requires : tie.Need-look-up-requires
+look-up-requires c κs =
     let at-examine = c .before .before .before .before .examine in
     let at-if1 = c .before .before .before .if1 in
     let at-shape = c .shape in
     let at-good-name = c .before .before .good-name in
     let at-if2 = c .before .if2 in
-    (small-of _ _ (at-examine .ensures) (at-if1 .left) _ (at-shape .ensures), root-low _ _ (at-examine .ensures) (at-if1 .left) _ (at-shape .ensures), name-fits _ _ (at-good-name .ensures) (not-false _ (at-if2 .left)))
+    (small-of _ _ (at-examine .ensures) (at-if1 .left) _ (at-shape .ensures), search needs, name-fits _ _ (at-good-name .ensures) (not-false _ (at-if2 .left)), root-low _ _ (at-examine .ensures) (at-if1 .left) _ (at-shape .ensures))
 
 returns-3 : tie.Need-returns-3
 unfolding Reads
@@ -54,18 +54,18 @@ returns-3 c =
     let at-good-name = c .before .before .before .before .before .good-name in
     let at-if2 = c .before .before .before .before .if2 in
     let at-shape = c .before .before .before .shape in
-    let at-look = c .before .before .look in
+    let at-look-up = c .before .before .look-up in
     let at-if3 = c .if3 in
-    read-unknown _ _ _ (at-examine .ensures) (at-if1 .left) _ (at-good-name .ensures) (not-false _ (at-if2 .left)) _ (at-shape .ensures) _ (at-look .ensures) (not-true _ (at-if3 .taken)) _ _
+    read-unknown _ _ _ (at-examine .ensures) (at-if1 .left) _ (at-good-name .ensures) (not-false _ (at-if2 .left)) _ (at-shape .ensures) _ (at-look-up .ensures) (not-true _ (at-if3 .taken)) _ _
 
 size-requires : tie.Need-size-requires
 size-requires c κs =
     let at-examine = c .before .before .before .before .before .before .before .examine in
     let at-if1 = c .before .before .before .before .before .before .if1 in
     let at-shape = c .before .before .before .shape in
-    let at-look = c .before .before .look in
+    let at-look-up = c .before .before .look-up in
     let at-if3 = c .if3 in
-    (small-of _ _ (at-examine .ensures) (at-if1 .left) _ (at-shape .ensures), index-low _ _ (at-examine .ensures) (at-if1 .left) _ (at-shape .ensures) _ _ (at-look .ensures) (not-false _ (at-if3 .left)))
+    (small-of _ _ (at-examine .ensures) (at-if1 .left) _ (at-shape .ensures), index-low _ _ (at-examine .ensures) (at-if1 .left) _ (at-shape .ensures) _ _ (at-look-up .ensures) (not-false _ (at-if3 .left)))
 
 returns-4 : tie.Need-returns-4
 unfolding Reads
@@ -75,20 +75,20 @@ returns-4 c =
     let at-good-name = c .before .before .before .before .before .before .before .good-name in
     let at-if2 = c .before .before .before .before .before .before .if2 in
     let at-shape = c .before .before .before .before .before .shape in
-    let at-look = c .before .before .before .before .look in
+    let at-look-up = c .before .before .before .before .look-up in
     let at-if3 = c .before .before .if3 in
     let at-size = c .before .size in
     let at-if4 = c .if4 in
-    read-past _ _ _ (at-examine .ensures) (at-if1 .left) _ (at-good-name .ensures) (not-false _ (at-if2 .left)) _ (at-shape .ensures) _ (at-look .ensures) (not-false _ (at-if3 .left)) _ _ (at-size .ensures) (at-if4 .taken) _
+    read-past _ _ _ (at-examine .ensures) (at-if1 .left) _ (at-good-name .ensures) (not-false _ (at-if2 .left)) _ (at-shape .ensures) _ (at-look-up .ensures) (not-false _ (at-if3 .left)) _ _ (at-size .ensures) (at-if4 .taken) _
 
 read-requires : tie.Need-read-requires
 read-requires c κs =
     let at-examine = c .before .before .before .before .before .before .before .before .before .before .examine in
     let at-if1 = c .before .before .before .before .before .before .before .before .before .if1 in
     let at-shape = c .before .before .before .before .before .before .shape in
-    let at-look = c .before .before .before .before .before .look in
+    let at-look-up = c .before .before .before .before .before .look-up in
     let at-if3 = c .before .before .before .if3 in
-    (small-of _ _ (at-examine .ensures) (at-if1 .left) _ (at-shape .ensures), index-low _ _ (at-examine .ensures) (at-if1 .left) _ (at-shape .ensures) _ _ (at-look .ensures) (not-false _ (at-if3 .left)))
+    (small-of _ _ (at-examine .ensures) (at-if1 .left) _ (at-shape .ensures), index-low _ _ (at-examine .ensures) (at-if1 .left) _ (at-shape .ensures) _ _ (at-look-up .ensures) (not-false _ (at-if3 .left)))
 
 same-length : tie.Need-same-length
 same-length c = search needs
@@ -101,12 +101,12 @@ returns-5 c =
     let at-good-name = c .before .before .before .before .before .before .before .before .before .before .before .good-name in
     let at-if2 = c .before .before .before .before .before .before .before .before .before .before .if2 in
     let at-shape = c .before .before .before .before .before .before .before .before .before .shape in
-    let at-look = c .before .before .before .before .before .before .before .before .look in
+    let at-look-up = c .before .before .before .before .before .before .before .before .look-up in
     let at-if3 = c .before .before .before .before .before .before .if3 in
     let at-size = c .before .before .before .before .before .size in
     let at-if4 = c .before .before .before .before .if4 in
     let at-read = c .before .before .read in
-    read-done _ _ _ (at-examine .ensures) (at-if1 .left) _ (at-good-name .ensures) (not-false _ (at-if2 .left)) _ (at-shape .ensures) _ (at-look .ensures) (not-false _ (at-if3 .left)) _ _ (at-size .ensures) (at-if4 .left) _ _ _ (at-read .ensures .0) (at-read .ensures .1)
+    read-done _ _ _ (at-examine .ensures) (at-if1 .left) _ (at-good-name .ensures) (not-false _ (at-if2 .left)) _ (at-shape .ensures) _ (at-look-up .ensures) (not-false _ (at-if3 .left)) _ _ (at-size .ensures) (at-if4 .left) _ _ _ (at-read .ensures .0) (at-read .ensures .1)
 
 pub read-spec : {M : Type 1} → statement M
 read-spec =
@@ -117,7 +117,7 @@ read-spec =
     good-name-requires
     returns-2
     shape-requires
-    look-requires
+    look-up-requires
     returns-3
     size-requires
     returns-4

@@ -37,14 +37,14 @@ shape-requires c κs =
     let at-if1 = c .before .before .if1 in
     shift-fits _ _ (at-examine .ensures) (at-if1 .left)
 
-look-requires : tie.Need-look-requires
-look-requires c κs =
+look-up-requires : tie.Need-look-up-requires
+look-up-requires c κs =
     let at-examine = c .before .before .before .before .examine in
     let at-if1 = c .before .before .before .if1 in
     let at-shape = c .shape in
     let at-good-name = c .before .before .good-name in
     let at-if2 = c .before .if2 in
-    (small-of _ _ (at-examine .ensures) (at-if1 .left) _ (at-shape .ensures), root-low _ _ (at-examine .ensures) (at-if1 .left) _ (at-shape .ensures), name-fits _ _ (at-good-name .ensures) (not-false _ (at-if2 .left)))
+    (small-of _ _ (at-examine .ensures) (at-if1 .left) _ (at-shape .ensures), search needs, name-fits _ _ (at-good-name .ensures) (not-false _ (at-if2 .left)), root-low _ _ (at-examine .ensures) (at-if1 .left) _ (at-shape .ensures))
 
 returns-3 : tie.Need-returns-3
 unfolding Sizes
@@ -54,18 +54,18 @@ returns-3 c =
     let at-good-name = c .before .before .before .before .before .good-name in
     let at-if2 = c .before .before .before .before .if2 in
     let at-shape = c .before .before .before .shape in
-    let at-look = c .before .before .look in
+    let at-look-up = c .before .before .look-up in
     let at-if3 = c .if3 in
-    size-unknown _ _ _ (at-examine .ensures) (at-if1 .left) _ (at-good-name .ensures) (not-false _ (at-if2 .left)) _ (at-shape .ensures) _ (at-look .ensures) (not-true _ (at-if3 .taken))
+    size-unknown _ _ _ (at-examine .ensures) (at-if1 .left) _ (at-good-name .ensures) (not-false _ (at-if2 .left)) _ (at-shape .ensures) _ (at-look-up .ensures) (not-true _ (at-if3 .taken))
 
 size-requires : tie.Need-size-requires
 size-requires c κs =
     let at-examine = c .before .before .before .before .before .before .before .examine in
     let at-if1 = c .before .before .before .before .before .before .if1 in
     let at-shape = c .before .before .before .shape in
-    let at-look = c .before .before .look in
+    let at-look-up = c .before .before .look-up in
     let at-if3 = c .if3 in
-    (small-of _ _ (at-examine .ensures) (at-if1 .left) _ (at-shape .ensures), index-low _ _ (at-examine .ensures) (at-if1 .left) _ (at-shape .ensures) _ _ (at-look .ensures) (not-false _ (at-if3 .left)))
+    (small-of _ _ (at-examine .ensures) (at-if1 .left) _ (at-shape .ensures), index-low _ _ (at-examine .ensures) (at-if1 .left) _ (at-shape .ensures) _ _ (at-look-up .ensures) (not-false _ (at-if3 .left)))
 
 returns-4 : tie.Need-returns-4
 unfolding Sizes
@@ -75,10 +75,10 @@ returns-4 c =
     let at-good-name = c .before .before .before .before .before .before .good-name in
     let at-if2 = c .before .before .before .before .before .if2 in
     let at-shape = c .before .before .before .before .shape in
-    let at-look = c .before .before .before .look in
+    let at-look-up = c .before .before .before .look-up in
     let at-if3 = c .before .if3 in
     let at-size = c .size in
-    size-done _ _ _ (at-examine .ensures) (at-if1 .left) _ (at-good-name .ensures) (not-false _ (at-if2 .left)) _ (at-shape .ensures) _ (at-look .ensures) (not-false _ (at-if3 .left)) _ (at-size .ensures)
+    size-done _ _ _ (at-examine .ensures) (at-if1 .left) _ (at-good-name .ensures) (not-false _ (at-if2 .left)) _ (at-shape .ensures) _ (at-look-up .ensures) (not-false _ (at-if3 .left)) _ (at-size .ensures)
 
 pub size-spec : {M : Type 1} → statement M
 size-spec =
@@ -89,7 +89,7 @@ size-spec =
     good-name-requires
     returns-2
     shape-requires
-    look-requires
+    look-up-requires
     returns-3
     size-requires
     returns-4)

@@ -47,14 +47,14 @@ shape-requires c κs =
     let at-if1 = c .before .before .before .if1 in
     shift-fits _ _ (at-examine .ensures) (at-if1 .left)
 
-look-requires : tie.Need-look-requires
-look-requires c κs =
+look-up-requires : tie.Need-look-up-requires
+look-up-requires c κs =
     let at-examine = c .before .before .before .before .before .before .examine in
     let at-if1 = c .before .before .before .before .before .if1 in
     let at-shape = c .before .shape in
     let at-good-name = c .before .before .before .before .good-name in
     let at-if2 = c .before .before .before .if2 in
-    (small-of _ _ (at-examine .ensures) (at-if1 .left) _ (at-shape .ensures), root-low _ _ (at-examine .ensures) (at-if1 .left) _ (at-shape .ensures), name-fits _ _ (at-good-name .ensures) (not-false _ (at-if2 .left)))
+    (small-of _ _ (at-examine .ensures) (at-if1 .left) _ (at-shape .ensures), search needs, name-fits _ _ (at-good-name .ensures) (not-false _ (at-if2 .left)), root-low _ _ (at-examine .ensures) (at-if1 .left) _ (at-shape .ensures))
 
 same-length-3 : tie.Need-same-length-3
 same-length-3 c = search needs
@@ -67,18 +67,18 @@ returns-3 c =
     let at-good-name = c .before .before .before .before .before .before .before .good-name in
     let at-if2 = c .before .before .before .before .before .before .if2 in
     let at-shape = c .before .before .before .before .shape in
-    let at-look = c .before .before .look in
+    let at-look-up = c .before .before .look-up in
     let at-if3 = c .if3 in
-    write-unknown _ _ _ (at-examine .ensures) (at-if1 .left) _ (at-good-name .ensures) (not-false _ (at-if2 .left)) _ (at-shape .ensures) _ (at-look .ensures) (not-true _ (at-if3 .taken)) _ _
+    write-unknown _ _ _ (at-examine .ensures) (at-if1 .left) _ (at-good-name .ensures) (not-false _ (at-if2 .left)) _ (at-shape .ensures) _ (at-look-up .ensures) (not-true _ (at-if3 .taken)) _ _
 
 stream-requires : tie.Need-stream-requires
 stream-requires c κs =
     let at-examine = c .before .before .before .before .before .before .before .before .before .before .examine in
     let at-if1 = c .before .before .before .before .before .before .before .before .before .if1 in
     let at-shape = c .before .before .before .before .before .shape in
-    let at-look = c .before .before .before .look in
+    let at-look-up = c .before .before .before .look-up in
     let at-if3 = c .before .if3 in
-    (small-of _ _ (at-examine .ensures) (at-if1 .left) _ (at-shape .ensures), index-low _ _ (at-examine .ensures) (at-if1 .left) _ (at-shape .ensures) _ _ (at-look .ensures) (not-false _ (at-if3 .left)))
+    (small-of _ _ (at-examine .ensures) (at-if1 .left) _ (at-shape .ensures), index-low _ _ (at-examine .ensures) (at-if1 .left) _ (at-shape .ensures) _ _ (at-look-up .ensures) (not-false _ (at-if3 .left)))
 
 same-length-4 : tie.Need-same-length-4
 same-length-4 c = search needs
@@ -91,11 +91,11 @@ returns-4 c =
     let at-good-name = c .before .before .before .before .before .before .before .before .before .before .before .good-name in
     let at-if2 = c .before .before .before .before .before .before .before .before .before .before .if2 in
     let at-shape = c .before .before .before .before .before .before .before .before .shape in
-    let at-look = c .before .before .before .before .before .before .look in
+    let at-look-up = c .before .before .before .before .before .before .look-up in
     let at-if3 = c .before .before .before .before .if3 in
     let at-stream = c .before .before .stream in
     let at-if4 = c .if4 in
-    write-past _ _ _ (at-examine .ensures) (at-if1 .left) _ (at-good-name .ensures) (not-false _ (at-if2 .left)) _ (at-shape .ensures) _ (at-look .ensures) (not-false _ (at-if3 .left)) _ _ (ap (λ (d : Desc). d .size) (at-stream .ensures)) (at-if4 .taken) _
+    write-past _ _ _ (at-examine .ensures) (at-if1 .left) _ (at-good-name .ensures) (not-false _ (at-if2 .left)) _ (at-shape .ensures) _ (at-look-up .ensures) (not-false _ (at-if3 .left)) _ _ (ap (λ (d : Desc). d .size) (at-stream .ensures)) (at-if4 .taken) _
 
 same-length-5 : tie.Need-same-length-5
 same-length-5 c = search needs
@@ -108,12 +108,12 @@ returns-5 c =
     let at-good-name = c .before .before .before .before .before .before .before .before .before .before .before .before .good-name in
     let at-if2 = c .before .before .before .before .before .before .before .before .before .before .before .if2 in
     let at-shape = c .before .before .before .before .before .before .before .before .before .shape in
-    let at-look = c .before .before .before .before .before .before .before .look in
+    let at-look-up = c .before .before .before .before .before .before .before .look-up in
     let at-if3 = c .before .before .before .before .before .if3 in
     let at-stream = c .before .before .before .stream in
     let at-if4 = c .before .if4 in
     let at-if5 = c .if5 in
-    write-long _ _ _ (at-examine .ensures) (at-if1 .left) _ (at-good-name .ensures) (not-false _ (at-if2 .left)) _ (at-shape .ensures) _ (at-look .ensures) (not-false _ (at-if3 .left)) _ (at-stream .ensures) _ (at-if4 .left) _ (at-if5 .taken)
+    write-long _ _ _ (at-examine .ensures) (at-if1 .left) _ (at-good-name .ensures) (not-false _ (at-if2 .left)) _ (at-shape .ensures) _ (at-look-up .ensures) (not-false _ (at-if3 .left)) _ (at-stream .ensures) _ (at-if4 .left) _ (at-if5 .taken)
 
 add-larger : tie.Need-add-larger
 add-larger c =
@@ -122,10 +122,10 @@ add-larger c =
     let at-examine = c .before .before .before .before .before .before .before .before .before .before .before .before .before .before .before .examine in
     let at-if1 = c .before .before .before .before .before .before .before .before .before .before .before .before .before .before .if1 in
     let at-shape = c .before .before .before .before .before .before .before .before .before .before .shape in
-    let at-look = c .before .before .before .before .before .before .before .before .look in
+    let at-look-up = c .before .before .before .before .before .before .before .before .look-up in
     let at-if3 = c .before .before .before .before .before .before .if3 in
     let at-stream = c .before .before .before .before .stream in
-    omega (arith, at-if4 .left, at-if5 .left, size-fits _ _ (at-examine .ensures) (at-if1 .left) _ (at-shape .ensures) _ _ (at-look .ensures) (not-false _ (at-if3 .left)) _ (at-stream .ensures))
+    omega (arith, at-if4 .left, at-if5 .left, size-fits _ _ (at-examine .ensures) (at-if1 .left) _ (at-shape .ensures) _ _ (at-look-up .ensures) (not-false _ (at-if3 .left)) _ (at-stream .ensures))
 
 larger-requires : tie.Need-larger-requires
 larger-requires c κs = search needs
@@ -138,10 +138,10 @@ wants-requires c κs =
     let at-larger = c .larger in
     let at-if4 = c .before .before .before .if4 in
     let at-if5 = c .before .before .if5 in
-    let at-look = c .before .before .before .before .before .before .before .before .before .look in
+    let at-look-up = c .before .before .before .before .before .before .before .before .before .look-up in
     let at-if3 = c .before .before .before .before .before .before .before .if3 in
     let at-stream = c .before .before .before .before .before .stream in
-    (small-of _ _ (at-examine .ensures) (at-if1 .left) _ (at-shape .ensures) .least, small-of _ _ (at-examine .ensures) (at-if1 .left) _ (at-shape .ensures) .most, omega (arith, at-larger .ensures, at-if4 .left, at-if5 .left, size-fits _ _ (at-examine .ensures) (at-if1 .left) _ (at-shape .ensures) _ _ (at-look .ensures) (not-false _ (at-if3 .left)) _ (at-stream .ensures)))
+    (small-of _ _ (at-examine .ensures) (at-if1 .left) _ (at-shape .ensures) .least, small-of _ _ (at-examine .ensures) (at-if1 .left) _ (at-shape .ensures) .most, omega (arith, at-larger .ensures, at-if4 .left, at-if5 .left, size-fits _ _ (at-examine .ensures) (at-if1 .left) _ (at-shape .ensures) _ _ (at-look-up .ensures) (not-false _ (at-if3 .left)) _ (at-stream .ensures)))
 
 has-room-requires : tie.Need-has-room-requires
 has-room-requires c κs =
@@ -161,7 +161,7 @@ returns-6 c =
     let at-good-name = c .before .before .before .before .before .before .before .before .before .before .before .before .before .before .before .before .before .good-name in
     let at-if2 = c .before .before .before .before .before .before .before .before .before .before .before .before .before .before .before .before .if2 in
     let at-shape = c .before .before .before .before .before .before .before .before .before .before .before .before .before .before .shape in
-    let at-look = c .before .before .before .before .before .before .before .before .before .before .before .before .look in
+    let at-look-up = c .before .before .before .before .before .before .before .before .before .before .before .before .look-up in
     let at-if3 = c .before .before .before .before .before .before .before .before .before .before .if3 in
     let at-stream = c .before .before .before .before .before .before .before .before .stream in
     let at-if4 = c .before .before .before .before .before .before .if4 in
@@ -169,19 +169,19 @@ returns-6 c =
     let at-wants = c .before .before .wants in
     let at-has-room = c .before .has-room in
     let at-if6 = c .if6 in
-    write-full _ _ _ (at-examine .ensures) (at-if1 .left) _ (at-good-name .ensures) (not-false _ (at-if2 .left)) _ (at-shape .ensures) _ (at-look .ensures) (not-false _ (at-if3 .left)) _ (at-stream .ensures) _ (at-if4 .left) _ _ _ (at-larger .ensures) (at-wants .ensures .0) _ (at-has-room .ensures) (not-true _ (at-if6 .taken))
+    write-full _ _ _ (at-examine .ensures) (at-if1 .left) _ (at-good-name .ensures) (not-false _ (at-if2 .left)) _ (at-shape .ensures) _ (at-look-up .ensures) (not-false _ (at-if3 .left)) _ (at-stream .ensures) _ (at-if4 .left) _ _ _ (at-larger .ensures) (at-wants .ensures .0) _ (at-has-room .ensures) (not-true _ (at-if6 .taken))
 
 write-requires : tie.Need-write-requires
 write-requires c κs =
     let at-examine = c .before .before .before .before .before .before .before .before .before .before .before .before .before .before .before .before .before .before .before .before .examine in
     let at-if1 = c .before .before .before .before .before .before .before .before .before .before .before .before .before .before .before .before .before .before .before .if1 in
     let at-shape = c .before .before .before .before .before .before .before .before .before .before .before .before .before .before .before .shape in
-    let at-look = c .before .before .before .before .before .before .before .before .before .before .before .before .before .look in
+    let at-look-up = c .before .before .before .before .before .before .before .before .before .before .before .before .before .look-up in
     let at-if3 = c .before .before .before .before .before .before .before .before .before .before .before .if3 in
     let at-if4 = c .before .before .before .before .before .before .before .if4 in
     let at-if5 = c .before .before .before .before .before .before .if5 in
     let at-stream = c .before .before .before .before .before .before .before .before .before .stream in
-    (small-of _ _ (at-examine .ensures) (at-if1 .left) _ (at-shape .ensures), index-low _ _ (at-examine .ensures) (at-if1 .left) _ (at-shape .ensures) _ _ (at-look .ensures) (not-false _ (at-if3 .left)), omega (arith, at-if4 .left, at-if5 .left, size-fits _ _ (at-examine .ensures) (at-if1 .left) _ (at-shape .ensures) _ _ (at-look .ensures) (not-false _ (at-if3 .left)) _ (at-stream .ensures)))
+    (small-of _ _ (at-examine .ensures) (at-if1 .left) _ (at-shape .ensures), index-low _ _ (at-examine .ensures) (at-if1 .left) _ (at-shape .ensures) _ _ (at-look-up .ensures) (not-false _ (at-if3 .left)), omega (arith, at-if4 .left, at-if5 .left, size-fits _ _ (at-examine .ensures) (at-if1 .left) _ (at-shape .ensures) _ _ (at-look-up .ensures) (not-false _ (at-if3 .left)) _ (at-stream .ensures)))
 
 same-length-7 : tie.Need-same-length-7
 same-length-7 c = search needs
@@ -194,7 +194,7 @@ returns-7 c =
     let at-good-name = c .before .before .before .before .before .before .before .before .before .before .before .before .before .before .before .before .before .before .before .before .before .good-name in
     let at-if2 = c .before .before .before .before .before .before .before .before .before .before .before .before .before .before .before .before .before .before .before .before .if2 in
     let at-shape = c .before .before .before .before .before .before .before .before .before .before .before .before .before .before .before .before .before .before .shape in
-    let at-look = c .before .before .before .before .before .before .before .before .before .before .before .before .before .before .before .before .look in
+    let at-look-up = c .before .before .before .before .before .before .before .before .before .before .before .before .before .before .before .before .look-up in
     let at-if3 = c .before .before .before .before .before .before .before .before .before .before .before .before .before .before .if3 in
     let at-stream = c .before .before .before .before .before .before .before .before .before .before .before .before .stream in
     let at-if4 = c .before .before .before .before .before .before .before .before .before .before .if4 in
@@ -203,7 +203,7 @@ returns-7 c =
     let at-has-room = c .before .before .before .before .before .has-room in
     let at-if6 = c .before .before .before .before .if6 in
     let at-write = c .before .before .write in
-    write-done _ _ _ (at-examine .ensures) (at-if1 .left) _ (at-good-name .ensures) (not-false _ (at-if2 .left)) _ (at-shape .ensures) _ (at-look .ensures) (not-false _ (at-if3 .left)) _ (at-stream .ensures) _ (at-if4 .left) _ _ _ (at-larger .ensures) (at-wants .ensures .0) _ (at-has-room .ensures) _ (not-false _ (at-if6 .left)) (at-write .ensures)
+    write-done _ _ _ (at-examine .ensures) (at-if1 .left) _ (at-good-name .ensures) (not-false _ (at-if2 .left)) _ (at-shape .ensures) _ (at-look-up .ensures) (not-false _ (at-if3 .left)) _ (at-stream .ensures) _ (at-if4 .left) _ _ _ (at-larger .ensures) (at-wants .ensures .0) _ (at-has-room .ensures) _ (not-false _ (at-if6 .left)) (at-write .ensures)
 
 pub write-spec : {M : Type 1} → statement M
 write-spec =
@@ -216,7 +216,7 @@ write-spec =
     same-length-2
     returns-2
     shape-requires
-    look-requires
+    look-up-requires
     same-length-3
     returns-3
     stream-requires

@@ -43,14 +43,14 @@ shape-requires c κs =
     let at-if1 = c .before .before .before .if1 in
     shift-fits _ _ (at-examine .ensures) (at-if1 .left)
 
-look-requires : tie.Need-look-requires
-look-requires c κs =
+look-up-requires : tie.Need-look-up-requires
+look-up-requires c κs =
     let at-examine = c .before .before .before .before .before .before .examine in
     let at-if1 = c .before .before .before .before .before .if1 in
     let at-shape = c .before .shape in
     let at-good-name = c .before .before .before .before .good-name in
     let at-if2 = c .before .before .before .if2 in
-    (small-of _ _ (at-examine .ensures) (at-if1 .left) _ (at-shape .ensures), root-low _ _ (at-examine .ensures) (at-if1 .left) _ (at-shape .ensures), name-fits _ _ (at-good-name .ensures) (not-false _ (at-if2 .left)))
+    (small-of _ _ (at-examine .ensures) (at-if1 .left) _ (at-shape .ensures), search needs, name-fits _ _ (at-good-name .ensures) (not-false _ (at-if2 .left)), root-low _ _ (at-examine .ensures) (at-if1 .left) _ (at-shape .ensures))
 
 same-length-3 : tie.Need-same-length-3
 same-length-3 c = search needs
@@ -63,9 +63,9 @@ returns-3 c =
     let at-good-name = c .before .before .before .before .before .before .good-name in
     let at-if2 = c .before .before .before .before .before .if2 in
     let at-shape = c .before .before .before .shape in
-    let at-look = c .before .look in
+    let at-look-up = c .before .look-up in
     let at-if3 = c .if3 in
-    create-known _ _ _ (at-examine .ensures) (at-if1 .left) _ (at-good-name .ensures) (not-false _ (at-if2 .left)) _ (at-shape .ensures) _ (at-look .ensures) (at-if3 .taken)
+    create-known _ _ _ (at-examine .ensures) (at-if1 .left) _ (at-good-name .ensures) (not-false _ (at-if2 .left)) _ (at-shape .ensures) _ (at-look-up .ensures) (at-if3 .taken)
 
 full-requires : tie.Need-full-requires
 full-requires c κs =
@@ -85,11 +85,11 @@ returns-4 c =
     let at-good-name = c .before .before .before .before .before .before .before .before .before .good-name in
     let at-if2 = c .before .before .before .before .before .before .before .before .if2 in
     let at-shape = c .before .before .before .before .before .before .shape in
-    let at-look = c .before .before .before .before .look in
+    let at-look-up = c .before .before .before .before .look-up in
     let at-if3 = c .before .before .before .if3 in
     let at-full = c .before .full in
     let at-if4 = c .if4 in
-    create-full _ _ _ (at-examine .ensures) (at-if1 .left) _ (at-good-name .ensures) (not-false _ (at-if2 .left)) _ (at-shape .ensures) _ (at-look .ensures) (at-if3 .left) _ (at-full .ensures) (at-if4 .taken)
+    create-full _ _ _ (at-examine .ensures) (at-if1 .left) _ (at-good-name .ensures) (not-false _ (at-if2 .left)) _ (at-shape .ensures) _ (at-look-up .ensures) (at-if3 .left) _ (at-full .ensures) (at-if4 .taken)
 
 create-wants-requires : tie.Need-create-wants-requires
 create-wants-requires c κs =
@@ -118,14 +118,14 @@ returns-5 c =
     let at-good-name = c .before .before .before .before .before .before .before .before .before .before .before .before .before .good-name in
     let at-if2 = c .before .before .before .before .before .before .before .before .before .before .before .before .if2 in
     let at-shape = c .before .before .before .before .before .before .before .before .before .before .shape in
-    let at-look = c .before .before .before .before .before .before .before .before .look in
+    let at-look-up = c .before .before .before .before .before .before .before .before .look-up in
     let at-if3 = c .before .before .before .before .before .before .before .if3 in
     let at-full = c .before .before .before .before .before .full in
     let at-if4 = c .before .before .before .before .if4 in
     let at-create-wants = c .before .before .create-wants in
     let at-has-room = c .before .has-room in
     let at-if5 = c .if5 in
-    create-cramped _ _ _ (at-examine .ensures) (at-if1 .left) _ (at-good-name .ensures) (not-false _ (at-if2 .left)) _ (at-shape .ensures) _ (at-look .ensures) (at-if3 .left) _ (at-full .ensures) (at-if4 .left) _ (at-create-wants .ensures) _ (at-has-room .ensures) (not-true _ (at-if5 .taken))
+    create-cramped _ _ _ (at-examine .ensures) (at-if1 .left) _ (at-good-name .ensures) (not-false _ (at-if2 .left)) _ (at-shape .ensures) _ (at-look-up .ensures) (at-if3 .left) _ (at-full .ensures) (at-if4 .left) _ (at-create-wants .ensures) _ (at-has-room .ensures) (not-true _ (at-if5 .taken))
 
 create-requires : tie.Need-create-requires
 create-requires c κs =
@@ -147,7 +147,7 @@ returns-6 c =
     let at-good-name = c .before .before .before .before .before .before .before .before .before .before .before .before .before .before .before .before .before .good-name in
     let at-if2 = c .before .before .before .before .before .before .before .before .before .before .before .before .before .before .before .before .if2 in
     let at-shape = c .before .before .before .before .before .before .before .before .before .before .before .before .before .before .shape in
-    let at-look = c .before .before .before .before .before .before .before .before .before .before .before .before .look in
+    let at-look-up = c .before .before .before .before .before .before .before .before .before .before .before .before .look-up in
     let at-if3 = c .before .before .before .before .before .before .before .before .before .before .before .if3 in
     let at-full = c .before .before .before .before .before .before .before .before .before .full in
     let at-if4 = c .before .before .before .before .before .before .before .before .if4 in
@@ -155,7 +155,7 @@ returns-6 c =
     let at-has-room = c .before .before .before .before .before .has-room in
     let at-if5 = c .before .before .before .before .if5 in
     let at-create = c .before .before .create in
-    create-done _ _ _ (at-examine .ensures) (at-if1 .left) _ (at-good-name .ensures) (not-false _ (at-if2 .left)) _ (at-shape .ensures) _ (at-look .ensures) (at-if3 .left) _ (at-full .ensures) (at-if4 .left) _ (at-create-wants .ensures) _ (at-has-room .ensures) _ (not-false _ (at-if5 .left)) (at-create .ensures)
+    create-done _ _ _ (at-examine .ensures) (at-if1 .left) _ (at-good-name .ensures) (not-false _ (at-if2 .left)) _ (at-shape .ensures) _ (at-look-up .ensures) (at-if3 .left) _ (at-full .ensures) (at-if4 .left) _ (at-create-wants .ensures) _ (at-has-room .ensures) _ (not-false _ (at-if5 .left)) (at-create .ensures)
 
 pub create-spec : {M : Type 1} → statement M
 create-spec =
@@ -168,7 +168,7 @@ create-spec =
     same-length-2
     returns-2
     shape-requires
-    look-requires
+    look-up-requires
     same-length-3
     returns-3
     full-requires
