@@ -28,7 +28,7 @@ fn refusal_word(refusal: Refusal) -> usize
     }
 }
 
-pub fn done_word(answer: Done) -> usize
+pub(crate) fn done_word(answer: Done) -> usize
     ensures { λ r. ⌜ r ≡ word (saidDone answer [] []) ⌝ }
 {
     match answer {
@@ -37,7 +37,7 @@ pub fn done_word(answer: Done) -> usize
     }
 }
 
-pub fn counted_word(answer: Counted) -> usize
+pub(crate) fn counted_word(answer: Counted) -> usize
     requires { ⌜ word (saidCounted answer [] []) < 2 ^ 64 ⌝ }
     ensures { λ r. ⌜ r ≡ word (saidCounted answer [] []) ⌝ }
 {
@@ -47,7 +47,7 @@ pub fn counted_word(answer: Counted) -> usize
     }
 }
 
-pub fn sized_word(answer: Sized) -> usize
+pub(crate) fn sized_word(answer: Sized) -> usize
     requires { ⌜ word (saidSized answer [] []) < 2 ^ 64 ⌝ }
     ensures { λ r. ⌜ r ≡ word (saidSized answer [] []) ⌝ }
 {
@@ -57,7 +57,7 @@ pub fn sized_word(answer: Sized) -> usize
     }
 }
 
-pub fn listed_word(answer: Listed) -> usize
+pub(crate) fn listed_word(answer: Listed) -> usize
     requires { ⌜ word (saidListed answer [] []) < 2 ^ 64 ⌝ }
     ensures { λ r. ⌜ r ≡ word (saidListed answer [] []) ⌝ }
 {
