@@ -1,6 +1,7 @@
 //! Times the proved code against the same in ordinary Rust, in one run, and prints the ratios. It judges nothing but that
 //! both sides made the same bytes.
 
+mod calls;
 mod ours;
 mod plain;
 
@@ -353,4 +354,9 @@ fn main() {
     checking(6, 4096, 255, 8);
     checking(6, 4096, 255, 64);
     checking(12, 1022, 255, 64);
+    // The calls as a program of C or Rust makes them, by their exports.
+    calls::rows(6, 64, 3);
+    calls::rows(9, 1022, 100);
+    calls::rows(6, 4096, 200);
+    calls::rows(12, 4096, 200);
 }

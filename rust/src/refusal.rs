@@ -41,6 +41,21 @@ impl Refusal {
         }
     }
 
+    /// Its name in that list.
+    pub fn title(self) -> &'static str {
+        match self {
+            Refusal::Damaged(_) => "DAMAGED",
+            Refusal::BadName => "BAD NAME",
+            Refusal::NotKnown => "NOT KNOWN",
+            Refusal::AlreadyKnown => "ALREADY KNOWN",
+            Refusal::PastTheEnd => "PAST THE END",
+            Refusal::StreamsFull => "STREAMS FULL",
+            Refusal::NoRoom => "NO ROOM",
+            Refusal::ShortTray => "SHORT TRAY",
+            Refusal::BadShape => "BAD SHAPE",
+        }
+    }
+
     /// The same in words.
     pub fn words(self) -> &'static str {
         match self {

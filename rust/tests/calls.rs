@@ -139,6 +139,14 @@ fn numbers_and_words() {
         assert_eq!(refusal.number() as usize, i + 1);
         assert!(!refusal.words().is_empty());
     }
+    // The header for C says the same.
+    let header = include_str!("../../include/lamporchid.h");
+    for refusal in all {
+        let name = refusal.title().replace(' ', "_");
+        let (number, words) = (refusal.number(), refusal.words());
+        assert!(header.contains(&format!("LAMPORCHID_{} = {}", name, number)));
+        assert!(header.contains(&format!("LAMPORCHID_{}: return \"{}\";", name, words)));
+    }
     let told = all[0].to_string();
     assert_eq!(told, "the card is damaged: it breaks rule 8");
 }

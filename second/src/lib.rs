@@ -9,7 +9,8 @@
 //!
 //! The [`generator`] holds what tests and other programs share: the dice, plain lists, random
 //! runs, the card as lists, scrambled cards and damage. The [`cases`] are damaged and scrambled
-//! cards by a description of their own, which the proved check is asked about too.
+//! cards by a description of their own, which the proved check is asked about too; the [`runs`] are
+//! rows of calls by the same page, which the proved store makes too.
 
 #![forbid(unsafe_code)]
 #![warn(missing_docs)]
@@ -24,6 +25,7 @@ pub mod filing;
 pub mod generator;
 pub mod header;
 pub mod pyramid;
+pub mod runs;
 pub mod shape;
 pub mod streams;
 pub mod table;

@@ -339,7 +339,8 @@ fn listed() -> BTreeMap<(usize, String), Vec<u32>> {
     let page = std::fs::read_to_string(path).expect("docs/CASES.md");
     let mut out = BTreeMap::new();
     let mut rule = 0;
-    for line in page.lines() {
+    // The tables after the last rule's are those of the runs.
+    for line in page.lines().take_while(|&line| line != "# Runs of calls") {
         if let Some(rest) = line.strip_prefix("Rule ") {
             rule = rest[..1].parse().expect("a rule");
         }

@@ -28,9 +28,6 @@ module _ (c : List ℕ) (s : Shape) where
 
   -- ---- how many descriptors there are, and which is taken
 
-  pub count-is : (t : Desc) (m : ℕ) → t ≡ table c s → m ≡ t .size - 8 → m / 25 ≡ slots tb
-  count-is t m e f = rw (length-table c s, f, e)
-
   pub slots-low : (n : ℕ) → n ≡ slots tb → table c s .size < 2 ^ 61 → 25 * n < 2 ^ 61
   slots-low n e h = omega (arith, div-mul-le-self (length tb - 8) 25, length-table c s)
 

@@ -1,6 +1,3 @@
-pub mod Formatting
-pub mod Reading
-pub mod Writing
 pub mod Creating
 pub mod Deleting
 pub mod Naming

@@ -12,7 +12,7 @@ use lib.Dec.{leb, ltb}
 use Rattle.layout.specs.Limits.{mostStreams}
 use Rattle.layout.specs.Bytes.{num, end8, run}
 use Rattle.layout.specs.Blocks.{fan, walk, next, firstFree, chain, enough}
-use Rattle.layout.specs.Streams.{dataFor, dataAt, wants, table, tableBytes, offset, slots, live, lives, firstDesc, descChain, stream}
+use Rattle.layout.specs.Streams.{dataFor, dataAt, wants, tableBytes, offset, slots, live, lives, firstDesc, descChain, stream}
 use Rattle.laws.proofs.Picks.{leb-yes, leb-no, eqb-yes, eqb-no}
 use Rattle.laws.proofs.Lists.{In, in-run, run-in, length-run, run-distinct}
 use Rattle.laws.proofs.Joins.{total-has}

@@ -1,4 +1,3 @@
-pub mod Front
 pub mod Full
 pub mod Fits
 pub mod Deleted

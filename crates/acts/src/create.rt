@@ -1,10 +1,11 @@
 // A new stream: the first free descriptor, or one more at the table's end, and an entry that names it.
-use crate::read::size;
-use crate::room::wants;
 use filing::edits::append;
+use holding::read::size;
+use holding::room::wants;
 use layout::Shape;
 use layout::limits::most_streams;
 use memory::numbers::minus;
+use stream::descs::descriptors;
 use stream::descs::stream;
 use stream::descs::table;
 use stream::inside::lay_in_table;
@@ -20,15 +21,6 @@ ghost use Rattle.layout.specs.Calls.{newIndex, described, createWantsIn, create
 ghost use Rattle.layout.specs.Ranges.{Small};
 ghost use Rattle.acts.specs.Fits.{Fits};
 ghost use Rattle.acts.specs.Full.{fullTable};
-
-// How many descriptors the table has.
-fn descriptors(card: &[u8], s: Shape) -> usize
-    requires { ⌜ Small (now card) s ⌝ }
-    ensures { λ r. ⌜ r ≡ slots (tableBytes (now (card .entry)) s) ⌝ }
-{
-    let t = table(card, s);
-    minus(t.size, 8) / 25
-}
 
 // The index that a new stream gets.
 pub fn new_index(card: &[u8], s: Shape) -> usize

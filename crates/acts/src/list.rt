@@ -1,9 +1,9 @@
 // An entry by its number, with its name in the tray.
 use filing::listing::Row;
 use filing::listing::nth_entry;
+use laying::gather::gather_stream;
 use layout::Shape;
 use stream::descs::stream;
-use stream::gather::gather_stream;
 ghost use mathlib.Core.Path.{_≡_};
 ghost use Prim.Native.Nat.{_^_, _<_};
 ghost use lib.ListN.{getD};

@@ -1,20 +1,20 @@
-// What the benchmark in bench/ calls: functions of memory, blocks, stream and sound, each under a name of its own and with its
+// What the benchmark in bench/ calls: functions of the layers from memory to sound, each under a name of its own and with its
 // own promise. Where one has a `requires`, the benchmark meets it: its cards are whole, and it made every number itself.
 use blocks::chain::enough;
 use blocks::chain::take_block;
 use blocks::growth::grow;
-use blocks::marks::release;
 use blocks::reader::node;
 use blocks::reader::reader;
+use laying::gather::gather_stream;
+use laying::lay::lay;
 use layout::Desc;
 use layout::Shape;
+use marking::marks::release;
 use memory::runs::clear;
 use memory::runs::copy;
 use memory::runs::matches;
 use sound::check::check;
 use sound::check::check_on;
-use stream::gather::gather_stream;
-use stream::lay::lay;
 ghost use mathlib.Core.Path.{_≡_};
 ghost use Prim.Native.Nat.{_+_, _/_, _^_, _<_, _≤_};
 ghost use lib.ListN.{length, take, drop, replicate};
@@ -23,7 +23,7 @@ ghost use Rattle.layout.specs.Blocks.{node, firstFree, enough, taken, grown, su
 ghost use Rattle.layout.specs.Streams.{contents, laid};
 ghost use Rattle.layout.specs.Sound.{broken};
 ghost use Rattle.layout.specs.Ranges.{Small};
-ghost use Rattle.blocks.specs.Walks.{plainShape};
+ghost use Rattle.blocks.specs.Plain.{plainShape};
 ghost use Rattle.bench.specs.Cuts.{cut};
 
 #[no_mangle]

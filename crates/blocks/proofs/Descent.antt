@@ -6,7 +6,7 @@ use native.Mathlib.Omega.{arith}
 use Rattle.layout.specs.Pyramid.{above}
 use Rattle.layout.specs.Blocks.{fan, slot, node}
 use Rattle.laws.proofs.Shorter.{node-deep}
-use Rattle.blocks.specs.Walks.{plainShape}
+use Rattle.blocks.specs.Plain.{plainShape}
 use Rattle.layout.specs.declared.Shape.{Shape}
 
 pub node-top : (c : List ℕ) (s : Shape) (b h j : ℕ) → h ≡ 0 → b ≡ node c s b h j

@@ -1,6 +1,4 @@
 pub mod Near
-pub mod Numbers
 pub mod Links
 pub mod Descent
 pub mod Growing
-pub mod Walking

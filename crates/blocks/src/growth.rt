@@ -1,15 +1,16 @@
 // Growth by one data block: maybe a new top, then the missing redirectors from the top down, then the data block.
 use crate::chain::take_block;
 use crate::places::put_slot;
-use crate::pyramid::find_stem;
-use crate::pyramid::height;
 use crate::reader::node;
 use layout::Shape;
 use memory::numbers::minus;
+use pyramids::pyramid::find_stem;
+use pyramids::pyramid::height;
 ghost use mathlib.Core.Path.{_≡_};
-ghost use Prim.Native.Nat.{_+_, _^_, _<_, _≤_};
+ghost use Prim.Native.Nat.{_+_, _/_, _^_, _<_, _≤_};
 ghost use Rattle.layout.specs.Bytes.{put};
-ghost use Rattle.layout.specs.Blocks.{slotPlace, firstFree, taken, hooked, hung, rooted, Grown, grownOne, grown, loweredTop};
+ghost use Rattle.layout.specs.Blocks.{slotPlace, firstFree, taken, hooked, hung, rooted, grownOne, grown, loweredTop};
+ghost use Rattle.layout.specs.Pyramid.{height};
 ghost use Rattle.layout.specs.Ranges.{Small};
 
 // Takes a block and names it in slot `j` of block `b`; answers it.
@@ -57,17 +58,14 @@ fn root(card: &mut [u8], s: Shape, top: usize, h: usize, d: usize)
     hang(card, s, b, at.i, at.m);
 }
 
-// Adds data block number `d`; answers the top.
-pub fn grow_one(card: &mut [u8], s: Shape, top: usize, d: usize) -> usize
-    requires { ⌜ Small (now card) s × (d < 2 ^ 62) ⌝ }
+// Adds data block number `d`; answers the top. The heights before and after are the caller's, who has one of them already.
+fn grow_one(card: &mut [u8], s: Shape, top: usize, d: usize, before: usize, after: usize) -> usize
+    requires { ⌜ Small (now card) s × (before ≡ height (s .size / 4) d) × (after ≡ height (s .size / 4) (d + 1)) ⌝ }
     ensures { λ r. ⌜ (r ≡ grownOne (now (card .entry)) s top d .top) × (now (card .exit) ≡ grownOne (now (card .entry)) s top d .card) ⌝ }
 {
     if d == 0 {
         return take_block(card, s);
     }
-    let f = s.size / 4;
-    let before = height(f, d);
-    let after = height(f, d + 1);
     if before < after {
         let above = raise(card, s, top);
         root(card, s, above, after, d);
@@ -82,11 +80,15 @@ pub fn grow(card: &mut [u8], s: Shape, top: usize, d: usize, m: usize) -> usize
     requires { ⌜ Small (now card) s × (d < 2 ^ 61) × (m < 2 ^ 61) ⌝ }
     ensures { λ r. ⌜ (r ≡ grown (now (card .entry)) s top d m .top) × (now (card .exit) ≡ grown (now (card .entry)) s top d m .card) ⌝ }
 {
+    let f = s.size / 4;
+    let mut h = height(f, d);
     let mut t = top;
     let mut k = d;
     let mut left = m;
     while 0 < left {
-        t = grow_one(card, s, t, k);
+        let before = h;
+        h = height(f, k + 1);
+        t = grow_one(card, s, t, k, before, h);
         k += 1;
         left -= 1;
     }

@@ -1,13 +1,13 @@
 // The reader: from a block and its height down to the data.
 use crate::places::index;
-use crate::pyramid::above;
 use layout::Shape;
+use pyramids::pyramid::above;
 ghost use mathlib.Core.Path.{_≡_};
 ghost use Prim.Native.Nat.{_≤_};
 ghost use lib.ListN.{length};
 ghost use Rattle.layout.specs.Blocks.{node};
 ghost use Rattle.layout.specs.Ranges.{Small};
-ghost use Rattle.blocks.specs.Walks.{plainShape};
+ghost use Rattle.blocks.specs.Plain.{plainShape};
 
 // Data block `j` of the pyramid of height `h` that starts at block `b`. It takes one level at a call, and ends at height zero.
 pub fn reader(card: &[u8], base: usize, size: usize, b: usize, h: usize, j: usize) -> usize

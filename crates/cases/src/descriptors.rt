@@ -1,22 +1,22 @@
 // Rule 5 broken: the chain of free descriptors.
-use crate::cells::NAMED;
-use crate::cells::SIZES;
-use crate::cells::SPARES;
-use crate::cells::get;
-use crate::cells::set_item;
-use crate::dice::below;
 use crate::forms::any_spare;
 use crate::forms::break_form;
-use crate::places::index;
-use crate::plan::spare;
-use crate::plan::spare_offset;
-use crate::put::put_first;
-use crate::put::put_owner;
-use crate::put::put_size;
-use crate::wrong::offset_beyond;
-use crate::wrong::turn;
-use crate::wrong::wrong_offset;
 use memory::numbers::minus;
+use samples::cells::NAMED;
+use samples::cells::SIZES;
+use samples::cells::SPARES;
+use samples::cells::get;
+use samples::cells::set_item;
+use samples::dice::below;
+use samples::places::index;
+use samples::plan::spare;
+use samples::plan::spare_offset;
+use samples::put::put_first;
+use samples::put::put_owner;
+use samples::put::put_size;
+use samples::wrong::offset_beyond;
+use samples::wrong::turn;
+use samples::wrong::wrong_offset;
 ghost use Prim.Native.Nat.{_<_};
 
 // The last spare.

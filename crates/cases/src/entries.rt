@@ -1,22 +1,22 @@
 // Rule 8 broken in the plan: names and indices of the root's entries. All else stays right.
-use crate::cells::ENTRIES;
-use crate::cells::INDICES;
-use crate::cells::LENGTHS;
-use crate::cells::NAMED;
-use crate::cells::ONE;
-use crate::cells::ORDER;
-use crate::cells::OTHER;
-use crate::cells::SPARES;
-use crate::cells::get;
-use crate::cells::item;
-use crate::cells::set;
-use crate::cells::set_item;
-use crate::dice::below;
-use crate::plan::spare;
-use crate::sums::rest;
-use crate::wrong::turn;
-use crate::wrong::wrong_index;
 use memory::numbers::minus;
+use samples::cells::ENTRIES;
+use samples::cells::INDICES;
+use samples::cells::LENGTHS;
+use samples::cells::NAMED;
+use samples::cells::ONE;
+use samples::cells::ORDER;
+use samples::cells::OTHER;
+use samples::cells::SPARES;
+use samples::cells::get;
+use samples::cells::item;
+use samples::cells::set;
+use samples::cells::set_item;
+use samples::dice::below;
+use samples::plan::spare;
+use samples::sums::rest;
+use samples::wrong::turn;
+use samples::wrong::wrong_index;
 ghost use Prim.Native.Nat.{_<_};
 
 // An entry, drawn.

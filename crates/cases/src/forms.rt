@@ -1,23 +1,23 @@
 // Rule 5 broken: the forms of descriptors.
-use crate::cells::BYTES;
-use crate::cells::COUNT;
-use crate::cells::NAMED;
-use crate::cells::SPARES;
-use crate::cells::get;
-use crate::dice::below;
-use crate::places::index;
-use crate::places::reserved;
-use crate::plan::spare;
-use crate::put::put_flags;
-use crate::put::put_reserved;
-use crate::put::put_size;
-use crate::put::put_top;
-use crate::sums::times;
-use crate::wrong::not_zero;
-use crate::wrong::turn;
-use crate::wrong::wrong_flags;
-use crate::wrong::wrong_reserved;
 use memory::numbers::minus;
+use samples::cells::BYTES;
+use samples::cells::COUNT;
+use samples::cells::NAMED;
+use samples::cells::SPARES;
+use samples::cells::get;
+use samples::dice::below;
+use samples::places::index;
+use samples::places::reserved;
+use samples::plan::spare;
+use samples::put::put_flags;
+use samples::put::put_reserved;
+use samples::put::put_size;
+use samples::put::put_top;
+use samples::sums::times;
+use samples::wrong::not_zero;
+use samples::wrong::turn;
+use samples::wrong::wrong_flags;
+use samples::wrong::wrong_reserved;
 ghost use Prim.Native.Nat.{_<_};
 
 // A spare, drawn: its number among the spares.

@@ -1,16 +1,16 @@
 // Rules 1 to 3 broken: length, fixed values, s.
-use crate::cells::BYTES;
-use crate::cells::CARD;
-use crate::cells::LENGTH;
-use crate::cells::get;
-use crate::cells::set;
-use crate::dice::below;
-use crate::sums::rest;
-use crate::wrong::turn;
 use memory::bytes::byte;
 use memory::bytes::put_number;
 use memory::numbers::minus;
 use memory::numbers::wide;
+use samples::cells::BYTES;
+use samples::cells::CARD;
+use samples::cells::LENGTH;
+use samples::cells::get;
+use samples::cells::set;
+use samples::dice::below;
+use samples::sums::rest;
+use samples::wrong::turn;
 ghost use Prim.Native.Nat.{_<_, _≤_};
 
 // A length below a header's.

@@ -1,32 +1,20 @@
 // Damaged and scrambled cards, made as docs/CASES.md describes, each put to the check. For each card a line: the clause that it
 // breaks, its number, the rule that the check gives, and the sum of its bytes. What it must write is made by second/.
-mod blocks;
-mod cells;
 mod chain;
 mod descriptors;
-mod dice;
 mod entries;
 mod forms;
 mod header;
-mod kinds;
-mod lay;
 mod own;
-mod places;
-mod plan;
-mod put;
 mod pyramids;
 mod root;
-mod rows;
-mod slots;
-mod sums;
 mod words;
-mod wrong;
 
-use crate::cells::LENGTH;
-use crate::cells::get;
 use memory::numbers::least;
 use memory::numbers::minus;
 use memory::numbers::wide;
+use samples::cells::LENGTH;
+use samples::cells::get;
 ghost use Prim.Native.Nat.{_<_, _≤_};
 
 // What a clause changes in the plan.
@@ -85,10 +73,10 @@ fn answer_of(card: &[u8], length: usize) {
 fn one(plan: &mut [u8], card: &mut [u8], rule: usize, clause: usize, i: usize)
     requires { ⌜ (rule ≤ 8) × (clause ≤ 99) ⌝ }
 {
-    plan::draw(plan, 100 * rule + clause, i);
+    samples::plan::draw(plan, 100 * rule + clause, i);
     change(plan, rule, clause);
-    blocks::give(plan);
-    lay::lay(plan, card);
+    samples::blocks::give(plan);
+    samples::lay::lay(plan, card);
     damage(plan, card, rule, clause);
     words::say_name(rule, clause);
     io::print_decimal(1, i as u64);

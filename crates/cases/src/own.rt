@@ -1,23 +1,23 @@
 // Rule 4 broken: the table's own descriptor, in the header, and its pyramid.
-use crate::cells::BYTES;
-use crate::cells::COUNT;
-use crate::cells::SIZES;
-use crate::cells::get;
-use crate::cells::item;
-use crate::dice::below;
-use crate::places::reserved;
-use crate::places::top;
-use crate::slots::any_data_slot;
-use crate::slots::data_slot_out;
-use crate::slots::data_twice;
-use crate::slots::deep_slot_out;
-use crate::slots::deep_twice;
-use crate::wrong::turn;
-use crate::wrong::wrong_block;
-use crate::wrong::wrong_flags;
-use crate::wrong::wrong_reserved;
 use memory::bytes::put_number;
 use memory::numbers::minus;
+use samples::cells::BYTES;
+use samples::cells::COUNT;
+use samples::cells::SIZES;
+use samples::cells::get;
+use samples::cells::item;
+use samples::dice::below;
+use samples::places::reserved;
+use samples::places::top;
+use samples::slots::any_data_slot;
+use samples::slots::data_slot_out;
+use samples::slots::data_twice;
+use samples::slots::deep_slot_out;
+use samples::slots::deep_twice;
+use samples::wrong::turn;
+use samples::wrong::wrong_block;
+use samples::wrong::wrong_flags;
+use samples::wrong::wrong_reserved;
 ghost use Prim.Native.Nat.{_≤_};
 
 // A size that is no 8 + 25n with n from 1 to 256.

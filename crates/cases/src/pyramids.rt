@@ -1,23 +1,23 @@
 // Rule 6 broken: the streams' pyramids. Owner 1 is the root, owners 2 and 3 are named streams 0 and 1.
-use crate::cells::BYTES;
-use crate::cells::COUNT;
-use crate::cells::get;
-use crate::dice::below;
-use crate::places::index;
-use crate::places::top;
-use crate::put::put_reserved;
-use crate::put::put_size;
-use crate::put::put_top;
-use crate::slots::any_block;
-use crate::slots::any_data_slot;
-use crate::slots::data_slot_out;
-use crate::slots::data_twice;
-use crate::slots::deep_slot_out;
-use crate::slots::deep_twice;
-use crate::sums::times;
-use crate::wrong::turn;
-use crate::wrong::wrong_block;
 use memory::bytes::put_number;
+use samples::cells::BYTES;
+use samples::cells::COUNT;
+use samples::cells::get;
+use samples::dice::below;
+use samples::places::index;
+use samples::places::top;
+use samples::put::put_reserved;
+use samples::put::put_size;
+use samples::put::put_top;
+use samples::slots::any_block;
+use samples::slots::any_data_slot;
+use samples::slots::data_slot_out;
+use samples::slots::data_twice;
+use samples::slots::deep_slot_out;
+use samples::slots::deep_twice;
+use samples::sums::times;
+use samples::wrong::turn;
+use samples::wrong::wrong_block;
 
 // A top out of range.
 fn top_out(plan: &mut [u8], card: &mut [u8]) {

@@ -1,21 +1,21 @@
 // Rule 8 broken on the card: the root's bytes.
-use crate::cells::LENGTHS;
-use crate::cells::NAMED;
-use crate::cells::ONE;
-use crate::cells::OTHER;
-use crate::cells::PLACES;
-use crate::cells::SIZES;
-use crate::cells::get;
-use crate::cells::item;
-use crate::dice::below;
 use crate::entries::any_entry;
-use crate::places::spot;
-use crate::put::put_in;
-use crate::put::put_size;
-use crate::wrong::turn;
 use memory::bytes::byte;
 use memory::numbers::minus;
 use memory::numbers::wide;
+use samples::cells::LENGTHS;
+use samples::cells::NAMED;
+use samples::cells::ONE;
+use samples::cells::OTHER;
+use samples::cells::PLACES;
+use samples::cells::SIZES;
+use samples::cells::get;
+use samples::cells::item;
+use samples::dice::below;
+use samples::places::spot;
+use samples::put::put_in;
+use samples::put::put_size;
+use samples::wrong::turn;
 ghost use Prim.Native.Nat.{_<_};
 
 // The last name's length, too long or too short for the root.

@@ -7,7 +7,6 @@ use native.Mathlib.Omega.{arith}
 use lib.ListN.{length}
 use lib.Dec.{T}
 use Rattle.layout.specs.Blocks.{chain}
-use Rattle.layout.specs.Streams.{stream}
 use Rattle.layout.specs.Header.{shaped, goodShape}
 use Rattle.layout.specs.Sound.{broken}
 use Rattle.layout.specs.Calls.{indexOf, format, room, write, truncate, create, delete}

@@ -18,14 +18,14 @@ use Rattle.layout.specs.declared.Desc.{Desc}
 use Rattle.layout.specs.Filing.{entriesOf, lookIn, withEntry}
 use Rattle.layout.specs.Header.{shapeOf}
 use Rattle.layout.specs.Answers.{Outcome}
-use Rattle.layout.specs.Calls.{Test, firstNo, unless, damaged, rootOf, known, indexOf, sizeOf, sizeAfter, freeBlocks, reuse, newIndex, rootWith, createWants, check, room, size, read, list, write, truncate, create, delete}
+use Rattle.layout.specs.Calls.{Test, firstNo, unless, damaged, rootOf, known, indexOf, sizeOf, sizeAfter, freeBlocks, reuse, newIndex, rootWith, createWants, size, read, list, write, truncate, create, delete}
 use Rattle.laws.proofs.Picks.{eqb-yes, eqb-no}
 use Rattle.laws.proofs.Tests.{is-ltb}
 use Rattle.laws.proofs.Entries.{with-length}
 use Rattle.laws.proofs.State.{slotsOf, livesOf, Right, Whole, right-data, length-stream}
 use Rattle.laws.proofs.Cores.{core-good}
 use Rattle.laws.proofs.Moves.{data-at, stream-right}
-use Rattle.demands.specs.Plain.{Item, Plainly, rootSize, tableSize, lengthOf, knows, freeOf, grows, withItem, orNo, plainCheck, plainRoom, plainSize, plainRead, plainList, plainWrite, plainTruncate, plainCreate, plainDelete}
+use Rattle.demands.specs.Plain.{Item, Plainly, rootSize, tableSize, lengthOf, knows, freeOf, grows, withItem, orNo, plainSize, plainRead, plainList, plainWrite, plainTruncate, plainCreate, plainDelete}
 use Rattle.demands.specs.Shows.{plain}
 use Rattle.demands.proofs.Free.{root-size, free-count}
 use Rattle.demands.proofs.Shown.{many-same, descs-same, knows-same, length-same}
@@ -78,14 +78,6 @@ module _ (c : List ℕ) (w : Whole c) where
   no-number : (t : List ℕ) (o : Outcome) → o .number ≡ 0 → unless (damaged c ∷ []) c t o .number ≡ 0
   unfolding firstNo
   no-number t o z = number-is (damaged c ∷ []) c t o z ∙ not-damaged c w []
-
-  pub check-number : check c .number ≡ plainCheck (plain c) .number
-  unfolding check plainCheck
-  check-number = no-number [] _ refl
-
-  pub room-number : room c .number ≡ plainRoom (plain c) .number
-  unfolding room plainRoom
-  room-number = no-number [] _ refl
 
   pub size-number : (name : List ℕ) → size c name .number ≡ plainSize (plain c) name .number
   unfolding size plainSize

@@ -1,7 +1,7 @@
 -- write, where it is not refused: the named stream holds the new bytes, lengthened where it must be, and nothing else changes.
 use mathlib.Core.Path.{_≡_, refl, sym, ap, _∙_}
 use mathlib.Core.List.{List, [], append-nil}
-use Prim.Native.Nat.{ℕ, suc, _+_, _≤_, _<_, max}
+use Prim.Native.Nat.{ℕ, suc, _+_, _≤_, _<_}
 use native.Mathlib.Nat.{sub-self}
 use native.Mathlib.Decide.{decLt}
 use native.Mathlib.Omega.{arith}

@@ -1,15 +1,15 @@
 // An entry more, and an entry less: appended at a directory's end, and later ones pulled forward over it.
-use blocks::pyramid::height;
+use laying::gather::gather_stream;
+use laying::lay::lay;
 use layout::Desc;
 use layout::Shape;
 use memory::bytes::put_number;
 use memory::numbers::least;
 use memory::numbers::minus;
 use memory::runs::copy;
+use pyramids::pyramid::height;
 use stream::descs::stream;
-use stream::gather::gather_stream;
 use stream::inside::lay_in_stream;
-use stream::lay::lay;
 use stream::lengths::lengthen;
 use stream::lengths::shorten;
 ghost use mathlib.Core.Path.{_≡_};

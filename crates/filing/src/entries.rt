@@ -1,10 +1,10 @@
 // Entries: one read where it stands, and the search for a name.
 use crate::names::name_is;
+use laying::gather::gather_stream;
 use layout::Desc;
 use layout::Shape;
 use memory::bytes::number;
 use stream::descs::stream;
-use stream::gather::gather_stream;
 ghost use mathlib.Core.Path.{_≡_};
 ghost use Prim.Native.Nat.{_+_, _^_, _<_, _≤_};
 ghost use lib.ListN.{length};

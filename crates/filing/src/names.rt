@@ -1,4 +1,5 @@
 // Names: what a good one is, and whether a name stands in a stream.
+use laying::gather::gather_stream;
 use layout::Desc;
 use layout::Shape;
 use layout::limits::longest_name;
@@ -6,7 +7,6 @@ use layout::limits::slash;
 use memory::numbers::least;
 use memory::numbers::minus;
 use memory::runs::matches;
-use stream::gather::gather_stream;
 ghost use mathlib.Core.Path.{_≡_};
 ghost use Prim.Native.Nat.{_<_, _≤_};
 ghost use lib.ListN.{length, take, drop};

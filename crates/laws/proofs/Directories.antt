@@ -5,7 +5,7 @@ use mathlib.Core.Bool.{not}
 use mathlib.Core.List.{List, [], _∷_, _++_}
 use Prim.Native.Nat.{ℕ, suc, _+_, _^_, _≤_, _<_}
 use native.Mathlib.Omega.{arith}
-use lib.ListN.{length, take, drop, length-append, length-map, length-take, length-drop, List·getD-map}
+use lib.ListN.{length, take, drop, length-map, List·getD-map}
 use lib.Seq.{split-at}
 use lib.Dec.{T, leb, leb→le}
 use Rattle.layout.specs.Limits.{longestName, slash}
@@ -53,9 +53,6 @@ module _ (r : List ℕ) (k : ℕ) (name : List ℕ) (h : T (reads r)) (small : k
   pub with-indices : indices (entries (withEntry r k name)) ≡ indices (entries r) ++ (k ∷ [])
   with-indices = with-map (λ (k : Key). k .index) r k name h small short
 
-  pub with-count : length (entries (withEntry r k name)) ≡ suc (length (entries r))
-  with-count = omega (arith, simp (length-map, length-append) at (ap length with-indices))
-
 pub with-good : (r : List ℕ) (k : ℕ) (name : List ℕ) → Directory r → k < 256 ^ 4 → T (goodName name) → (In name (names (entries r)) → ⊥) → Directory (withEntry r k name)
 with-good r k name g small ok new =
     let short : length name < 256 ^ 2 = omega (arith, good-short name ok) in
@@ -79,9 +76,6 @@ module _ (r : List ℕ) (i : ℕ) (h : T (reads r)) (l : i < length (entries r))
 
   pub without-indices : indices (entries (withoutEntry r (entry r i))) ≡ take i (indices (entries r)) ++ drop (suc i) (indices (entries r))
   without-indices = without-map (λ (k : Key). k .index) r i h l
-
-  pub without-count : suc (length (entries (withoutEntry r (entry r i)))) ≡ length (entries r)
-  without-count = omega (arith, simp (length-map, length-append, length-take, length-drop) at (ap length without-indices))
 
   -- its name between the others
   names-parted : names (entries r) ≡ take i (names (entries r)) ++ entry r i .name ∷ drop (suc i) (names (entries r))

@@ -317,9 +317,6 @@ edit-then c c₁ c₂ s k t₁ t₂ xs ys f₁ f₂ w lk a b = record {
     size-is : table c₁ s .size ≡ table c s .size
     size-is = a .core .size ∙ ap offset (a .slots-is) ∙ sym (w .size)
 
-pub edit-head : (c c′ : List ℕ) (s : Shape) (k : ℕ) (t xs f : List ℕ) → Core c s → Edit c c′ s k t xs f → (i : ℕ) → i < s .base → NotField s i → getD c′ i 0 ≡ getD c i 0
-edit-head c c′ s k t xs f w e i l n = e .rest-same i n (header-beyond s xs i l) (header-beyond s (streamBlocks c s k) i l) (λ m u v. omega arith)
-
 pub edit-free : (c c′ : List ℕ) (s : Shape) (k : ℕ) (t xs f : List ℕ) → Edit c c′ s k t xs f → Edit c c′ s k t xs (chain c′ s)
 edit-free c c′ s k t xs f e = subst (λ (l : List ℕ). Edit c c′ s k t xs l) (sym (e .chain-is)) e
 

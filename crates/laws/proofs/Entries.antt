@@ -7,7 +7,7 @@ use Prim.Native.Nat.{ℕ, zero, suc, _+_, _^_, _≤_, _<_}
 use native.Mathlib.Decide.{decLt}
 use native.Mathlib.Omega.{arith}
 use lib.ListN.{length, getD, take, drop, length-take, length-drop, length-append, length-map, List·getD-map}
-use lib.Seq.{split-at, take-at, drop-at, drop-drop, getD-at}
+use lib.Seq.{split-at, take-at, drop-at, drop-drop}
 use lib.Dec.{T, ltb, eqb}
 use Rattle.layout.specs.Bytes.{pick, same}
 use Rattle.layout.specs.Filing.{Entry, entries, reads, entryBytes, lookIn, distinctNames, nothing, withEntry, withoutEntry}
@@ -31,21 +31,9 @@ module _ (r : List ℕ) (k : ℕ) (name : List ℕ) where
       listed-entries (r ++ entryBytes k name) _
       (listed-append (entryBytes k name) r (keys r) (record { index = k; name = name } ∷ []) (entries-listed r h) (listed-one k name small short))
 
-  -- its own number is how many there were
-  pub with-last : T (reads r) → k < 256 ^ 4 → length name < 256 ^ 2 → key (entry (withEntry r k name) (length (entries r))) ≡ record { index = k; name = name }
-  with-last h small short =
-      sym (List·getD-map key (entries (withEntry r k name)) (length (entries r)) nothing)
-      ∙ ap {B = Key} (λ ks. getD ks (length (entries r)) (key nothing)) (with-entry h small short .1)
-      ∙ getD-at (keys r) (record { index = k; name = name }) [] (key nothing) (length (entries r)) (length-map (entries r) key)
-
   pub with-length : length (withEntry r k name) ≡ length r + 6 + length name
   unfolding withEntry
   with-length = rw (length-append, length-entry k name) (omega arith)
-
-  -- only what is behind the old end is new
-  pub with-front : take (length r) (withEntry r k name) ≡ r
-  unfolding withEntry
-  with-front = take-at r (entryBytes k name) (length r) refl
 
   pub with-new : drop (length r) (withEntry r k name) ≡ entryBytes k name
   unfolding withEntry

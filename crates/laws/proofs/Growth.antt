@@ -13,7 +13,7 @@ use Rattle.laws.proofs.Levels.{level-holds, missing-le, missing-level, 
 use Rattle.layout.specs.Blocks.{fan, slotPlace, node, hung, rooted}
 use Rattle.laws.proofs.Frame.{Inside, same-node}
 use Rattle.laws.proofs.Chain.{Good, Room, one-block}
-use Rattle.laws.proofs.Hanging.{Hangs, NotField, NotSlot, Beyond, Ready, two, slot-inside, block-field, beyond, hung-room, hung-else, hung-hangs, hung-blank, hung-end}
+use Rattle.laws.proofs.Hanging.{Hangs, NotField, NotSlot, Beyond, Ready, two, slot-inside, block-field, beyond, hung-room, hung-else, hung-hangs, hung-end}
 use Rattle.layout.specs.declared.Shape.{Shape}
 
 -- the pyramid of height h over d data blocks: its blocks are in range, none stands twice and none is free
@@ -117,9 +117,6 @@ module _ (s : Shape) (good : Good s) (c : List ℕ) (top h d : ℕ) (xs rest : L
       hangs-nodes (rooted c s top h d) s top d xs stem nook (h - length xs) (rw rooted-is (hung-hangs s good xs rest c stem nook ready))
       (sym (rooted-old (h - length xs) (length xs) (above (fan s) (length xs) d) (omega (arith, small)) stem-cell)) refl
       (λ k l. missing-slot (fan s) (two s good) h k d (omega arith)) e k i (omega (arith, small)) q
-
-  pub rooted-blank : (y : ℕ) → In y xs → (i : ℕ) → Inside s y i → NotSlot s y 0 i → getD (rooted c s top h d) i 0 ≡ 0
-  rooted-blank y k i a n = rw rooted-is (hung-blank s good xs rest c stem nook ready y k i a n)
 
   -- the new data block holds zeros
   pub rooted-zero : (i : ℕ) → Inside s (node (rooted c s top h d) s top h d) i → getD (rooted c s top h d) i 0 ≡ 0

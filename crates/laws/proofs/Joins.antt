@@ -17,10 +17,6 @@ total g [] = 0
 total g (k ∷ ks) = g k + total g ks
 
 module _ {A : Type 0} where
-  pub total-cons : (g : A → ℕ) (k : A) (ks : List A) → total g (k ∷ ks) ≡ g k + total g ks
-  unfolding total
-  total-cons g k ks = refl
-
   pub total-append : (g : A → ℕ) (xs ys : List A) → total g (xs ++ ys) ≡ total g xs + total g ys
   unfolding total
   total-append g [] ys = omega arith

@@ -19,7 +19,7 @@ use Rattle.laws.proofs.Chain.{Good, Room, one-block, within, same-next}
 use Rattle.laws.proofs.Links.{links-same}
 use Rattle.laws.proofs.Hanging.{two}
 use Rattle.laws.proofs.Growth.{Skeleton}
-use Rattle.layout.specs.Streams.{spot, tall, contents, laidTo, laid}
+use Rattle.layout.specs.Streams.{spot, tall, contents, laidTo}
 use Rattle.layout.specs.declared.Shape.{Shape}
 
 module _ (s : Shape) (good : Good s) (c : List ℕ) (top h d p : ℕ) (vs free : List ℕ)

@@ -2,16 +2,16 @@
 use mathlib.Core.Path.{_≡_, sym, ap, _∙_}
 use mathlib.Core.Logic.{inl, inr}
 use mathlib.Core.List.{List, _++_}
-use Prim.Native.Nat.{ℕ, suc, _+_, _-_, _≤_, _<_}
+use Prim.Native.Nat.{ℕ, suc, _+_, _-_, _<_}
 use native.Mathlib.Omega.{arith}
 use lib.ListN.{length, getD}
 use Rattle.laws.proofs.Lists.{In, Distinct, in-left, in-right, distinct-left, distinct-apart, map-apart, in-getD, getD-apart}
 use Rattle.layout.specs.Pyramid.{level, above, height, P}
 use Rattle.laws.proofs.Levels.{split}
-use Rattle.layout.specs.Blocks.{fan, node, Cell, at, cells, surplus, pyramid, chain, grownOne, Grown}
+use Rattle.layout.specs.Blocks.{fan, node, Cell, at, cells, surplus, pyramid, grownOne, Grown}
 use Rattle.laws.proofs.Cells.{in-cells, kept-none}
 use Rattle.laws.proofs.Frame.{SameIn, in-pyramid}
-use Rattle.laws.proofs.Chain.{Good, Room, room-chain, one-block}
+use Rattle.laws.proofs.Chain.{Good, Room, one-block}
 use Rattle.laws.proofs.Hanging.{two, block-field, beyond}
 use Rattle.laws.proofs.Growth.{Skeleton}
 use Rattle.laws.proofs.Growing.{Grew, grew}
@@ -42,10 +42,6 @@ module _ (s : Shape) (good : Good s) where
 
     all : Grew s c top d xs rest (grownOne c s top d)
     all = grew s good c top d xs rest room sk many
-
-    -- the chain is the old one without the blocks taken
-    pub grown-chain : length rest ≤ s .count → chain (g .card) s ≡ rest
-    grown-chain h = room-chain (g .card) s rest (all .room) h
 
     -- the data stays
     pub grown-data : (j : ℕ) → j < d → SameIn s c (g .card) (node c s top (height (fan s) d) j)

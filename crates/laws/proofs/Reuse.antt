@@ -44,9 +44,6 @@ module _ (c : List ℕ) (s : Shape) (w : Core c s) (j : ℕ) (xs : List ℕ) (ch
   pub reused-range : j < slots tb
   reused-range = let r = frees .gone (offset j) (inl refl) in omega (arith, r .1, r .3)
 
-  pub reused-first : firstDesc tb ≡ offset j
-  reused-first = frees .links .0
-
   dead-j : descOf tb j .top ≡ end8
   dead-j = let r = frees .gone (offset j) (inl refl) in let e : r .0 ≡ j = omega (arith, r .3) in rw e at (r .2)
 

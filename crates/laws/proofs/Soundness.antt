@@ -8,7 +8,7 @@ use native.Mathlib.Omega.{arith}
 use lib.ListN.{length}
 use lib.Dec.{T}
 use Rattle.layout.specs.Limits.{leastShift, mostShift, mostBlocks, mostStreams}
-use Rattle.layout.specs.Bytes.{end8, run, separate, join}
+use Rattle.layout.specs.Bytes.{end8, run, join}
 use Rattle.layout.specs.Blocks.{chain}
 use Rattle.layout.specs.Streams.{dataOf, dataFor, table, tableBytes, offset, slots, descOf, frees, descChain, stream, streamBytes, tableBlocks}
 use Rattle.layout.specs.declared.Desc.{Desc}

@@ -21,7 +21,7 @@ use Rattle.laws.proofs.Sets.{Same}
 use Rattle.laws.proofs.Entries.{indices}
 use Rattle.laws.proofs.Directories.{Directory}
 use Rattle.laws.proofs.Levels.{div-is, up-covers}
-use Rattle.laws.proofs.Chain.{Good, chain-room, room-chain}
+use Rattle.laws.proofs.Chain.{Good, chain-room}
 use Rattle.laws.proofs.Hanging.{two}
 use Rattle.laws.proofs.OneMore.{skeleton}
 use Rattle.laws.proofs.Counting.{length-pyramid}
@@ -170,10 +170,6 @@ module _ (c : List ℕ) (s : Shape) (g : Good s) (long : s .base + s .count * s 
   module _ (free : List ℕ) (p : Parts c s ks o free) where
     pub parts-many : length (inUse ++ free) ≡ s .count
     parts-many = omega (arith, length-append inUse free, as-many, p .sum)
-
-    -- the chain is the one that the field names
-    pub parts-chain : chain c s ≡ free
-    parts-chain = room-chain c s free (p .room) (omega (arith, p .sum))
 
     pub use-low : (b : ℕ) → In b inUse → b < s .count
     use-low b i = let r = join-in (λ k. blocks c s (o k)) b ks i in skeleton-low s (two s g) c (o (r .0) .top) (o (r .0) .d) free (p .bones (r .0) (r .1)) b (r .2)

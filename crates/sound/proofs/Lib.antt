@@ -1,12 +1,1 @@
-pub mod Heading
-pub mod Shaped
-pub mod Uses
-pub mod Chained
-pub mod Compared
-pub mod Spares
-pub mod Buckets
-pub mod Filed
-pub mod Rooted
-pub mod Differ
-pub mod Reached
 pub mod Lowest

@@ -11,7 +11,7 @@ use Rattle.layout.specs.Header.{headLength, shiftOf, shapeOf}
 use Rattle.layout.specs.Sound.{rule1, rule2, rule3, rule4, rule5, rule6, rule7, rule8, broken}
 use Rattle.layout.specs.Ranges.{Small}
 use Rattle.laws.proofs.Tests.{is-both, is-leb, is-eqb}
-use Rattle.sound.specs.OnPage.{brokenIn}
+use Rattle.sound.specs.Lowest.{brokenIn}
 use Rattle.layout.specs.declared.Shape.{Shape}
 
 -- ---- rules 4 to 8

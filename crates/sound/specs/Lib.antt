@@ -1,5 +1,1 @@
-pub mod Used
-pub mod Compared
-pub mod OnPage
-pub mod Buckets
-pub mod Rooted
+pub mod Lowest

@@ -1,21 +1,21 @@
 // The check: the lowest broken rule of any bytes.
-use crate::free::rule7;
-use crate::header::rule1;
-use crate::header::rule2;
-use crate::header::rule3;
-use crate::header::shape;
-use crate::root::rule8;
-use crate::spare::rule5;
-use crate::table::rule4;
-use crate::used::rule6;
+use heading::header::rule1;
+use heading::header::rule2;
+use heading::header::rule3;
+use heading::header::shape;
 use layout::Shape;
+use naming::root::rule8;
+use tables::spare::rule5;
+use tables::table::rule4;
+use usage::free::rule7;
+use usage::used::rule6;
 ghost use mathlib.Core.Path.{_≡_};
 ghost use Prim.Native.Nat.{_≤_};
 ghost use lib.ListN.{length, replicate};
 ghost use Rattle.layout.specs.Limits.{mostBlocks};
 ghost use Rattle.layout.specs.Sound.{broken};
 ghost use Rattle.layout.specs.Ranges.{Small};
-ghost use Rattle.sound.specs.OnPage.{brokenIn};
+ghost use Rattle.sound.specs.Lowest.{brokenIn};
 
 // The lowest broken one of rules 4 to 8; 0 where there is none. The page and the marks are lent for the work.
 fn check_shaped(card: &[u8], s: Shape, tab: &mut [u8], marks: &mut [u8]) -> usize

@@ -1,5 +1,6 @@
 pub mod Outcomes
 pub mod Passing
+pub mod Fronted
 pub mod Shaping
 pub mod Named
 pub mod Roomy

@@ -1,111 +1,58 @@
--- The calls on a name that was looked for: each refusal in its turn, and what is done.
-use mathlib.Core.Path.{_≡_, sym, ap, subst, _∙_}
-use mathlib.Core.Bool.{Bool, true, false, not}
-use mathlib.Core.List.{List, []}
+-- The calls on a name that is known: each refusal in its turn, and what is done.
+use mathlib.Core.Path.{_≡_, sym, ap, _∙_}
+use mathlib.Core.List.{List, [], _∷_}
 use Prim.Native.Nat.{ℕ, _≤_, _<_}
 use native.Mathlib.Omega.{arith}
 use lib.ListN.{length, take, drop}
-use lib.Dec.{ltb}
 use borrow.Author.Tests.{lt-ltb, le-ltb}
 use Rattle.layout.specs.Bytes.{over}
 use Rattle.layout.specs.Streams.{stream, streamBytes}
-use Rattle.layout.specs.Filing.{goodName, entriesOf, lookIn}
-use Rattle.layout.specs.Header.{shapeOf}
-use Rattle.layout.specs.Sound.{broken}
-use Rattle.layout.specs.Answers.{refused, done, counted, sized}
-use Rattle.layout.specs.Calls.{known, rootOf, sizeOf, indexOf, entryOf, truncatedIn, deleted, size, read, write, truncate, delete}
-use Rattle.laws.proofs.State.{Core}
+use Rattle.layout.specs.Filing.{lookIn}
+use Rattle.layout.specs.Answers.{Outcome, refused, done, counted, sized}
+use Rattle.layout.specs.Calls.{Test, unless, damaged, badName, notKnown, pastTheEnd, rootOf, sizeOf, indexOf, entryOf, truncatedIn, deleted, size, read, truncate, delete}
 use Rattle.laws.proofs.Entries.{look-name}
-use Rattle.filing.specs.Located.{located}
 use Rattle.acts.specs.Deleted.{deletedAt}
 use Rattle.acts.proofs.Sound.{deleted-is}
-use Rattle.store.proofs.Outcomes.{pass, stop, none, refuse-3, past-3}
-use Rattle.store.proofs.Passing.{passed, known-is, index-is, at-is, there}
-use Rattle.filing.specs.declared.entries.Found.{Found}
+use Rattle.store.proofs.Outcomes.{pass, stop, none, past-3}
+use Rattle.store.proofs.Passing.{Named, whole, there}
 use Rattle.layout.specs.declared.Shape.{Shape}
 
-module _ (c name : List ℕ) (rule : ℕ) (e : rule ≡ broken c) (z : rule ≡ 0) (q : Bool) (f : q ≡ goodName name) (g : q ≡ true) (s : Shape) (h : s ≡ shapeOf c)
-    (x : Found) (w : x ≡ located (entriesOf c s 0) name 0) where
-  is-known : x .known ≡ known c name
-  is-known = known-is c rule e z s h name x w
+module _ {c name : List ℕ} {s : Shape} {k at : ℕ} (n : Named c name s k at) where
+  past-name : (t : List ℕ) (o : Outcome) (tests : List Test) → unless tests c t o ≡ unless (damaged c ∷ badName name ∷ notKnown c name ∷ tests) c t o
+  past-name t o tests = past-3 c t o name tests (n .passed .unbroken) (n .good) (n .found)
 
-  is-index : x .index ≡ indexOf c name
-  is-index = index-is c rule e z s h name x w
+  pub size-done : (m : ℕ) → m ≡ stream c s k .size → sized m c [] ≡ size c name
+  unfolding size
+  size-done m a = rw (a, n .passed .cut, n .index) (none c [] _ ∙ past-name [] _ [])
 
-  core : Core c s
-  core = subst (λ (t : Shape). Core c t) (sym h) (passed c rule e z .core)
+  pub delete-done : (c′ : List ℕ) → c′ ≡ deletedAt c s 0 k at (length name) → done c′ [] ≡ delete c name
+  unfolding delete
+  delete-done c′ a =
+      let l = there n in
+      let m : length name ≡ length (entryOf c name .name) = ap length (sym (look-name (rootOf c) name l)) in
+      let d : c′ ≡ deleted c (entryOf c name) = a ∙ rw (n .passed .cut, n .index, n .place, m) (deleted-is c (whole (n .passed)) (lookIn (rootOf c) name) l) in
+      rw d (none c [] _ ∙ past-name [] _ [])
 
-  -- ---- not known
+  -- ---- past the end
 
-  module _ (y : x .known ≡ false) where
-    pub size-unknown : refused 3 0 c [] ≡ size c name
-    unfolding size
-    size-unknown = refuse-3 c [] _ name _ rule e z q f g (x .known) is-known y
+  module _ (m p : ℕ) (a : m ≡ stream c s k .size) where
+    size-is : m ≡ sizeOf c (indexOf c name)
+    size-is = a ∙ rw (n .passed .cut, n .index)
 
-    pub read-unknown : (p : ℕ) (tray : List ℕ) → refused 3 0 c tray ≡ read c name p tray
-    unfolding read
-    read-unknown p tray = refuse-3 c tray _ name _ rule e z q f g (x .known) is-known y
+    pub refused-past : m < p → (t : List ℕ) (o : Outcome) (tests : List Test)
+        → refused 5 0 c t ≡ unless (damaged c ∷ badName name ∷ notKnown c name ∷ pastTheEnd (sizeOf c (indexOf c name)) p ∷ tests) c t o
+    refused-past b t o tests = stop c t o _ 5 tests (omega arith) (rw (← size-is) (lt-ltb m p b)) ∙ past-name t o _
 
-    pub write-unknown : (p : ℕ) (vs : List ℕ) → refused 3 0 c [] ≡ write c name p vs
-    unfolding write
-    write-unknown p vs = refuse-3 c [] _ name _ rule e z q f g (x .known) is-known y
+    module _ (b : p ≤ m) where
+      pub past-end : (t : List ℕ) (o : Outcome) (tests : List Test)
+          → unless tests c t o ≡ unless (damaged c ∷ badName name ∷ notKnown c name ∷ pastTheEnd (sizeOf c (indexOf c name)) p ∷ tests) c t o
+      past-end t o tests = pass c t o _ 5 tests (rw (← size-is) (le-ltb m p b)) ∙ past-name t o _
 
-    pub truncate-unknown : (n : ℕ) → refused 3 0 c [] ≡ truncate c name n
-    unfolding truncate
-    truncate-unknown n = refuse-3 c [] _ name _ rule e z q f g (x .known) is-known y
+      pub read-done : (tray tray′ : List ℕ) (r : ℕ) → r ≡ length (take (length tray) (drop p (streamBytes c s k))) → tray′ ≡ over tray 0 (take (length tray) (drop p (streamBytes c s k)))
+          → counted r c tray′ ≡ read c name p tray
+      unfolding read
+      read-done tray tray′ r l u = rw (l, u, n .passed .cut, n .index) (none c tray _ ∙ past-end tray _ [])
 
-    pub delete-unknown : refused 3 0 c [] ≡ delete c name
-    unfolding delete
-    delete-unknown = refuse-3 c [] _ name _ rule e z q f g (x .known) is-known y
-
-  -- ---- known
-
-  module _ (y : x .known ≡ true) where
-    pub size-done : (n : ℕ) → n ≡ stream c s (x .index) .size → sized n c [] ≡ size c name
-    unfolding size
-    size-done n a = rw (a, h, is-index) (none c [] _ ∙ past-3 c [] _ name [] rule e z q f g (x .known) is-known y)
-
-    pub delete-done : (c′ : List ℕ) → c′ ≡ deletedAt c s 0 (x .index) (x .at) (length name) → done c′ [] ≡ delete c name
-    unfolding delete
-    delete-done c′ a =
-        let i = lookIn (rootOf c) name in
-        let l = there c rule e z s h name x w y in
-        let n : entryOf c name .name ≡ name = look-name (rootOf c) name l in
-        let m : length name ≡ length (entryOf c name .name) = ap length (sym n) in
-        let d : c′ ≡ deleted c (entryOf c name) = a ∙ rw (h, is-index, at-is c rule e z s h name x w, m) (deleted-is c (passed c rule e z) i l) in
-        rw d (none c [] _ ∙ past-3 c [] _ name [] rule e z q f g (x .known) is-known y)
-
-    -- ---- past the end
-
-    module _ (n p : ℕ) (a : n ≡ stream c s (x .index) .size) where
-      size-is : n ≡ sizeOf c (indexOf c name)
-      size-is = a ∙ rw (h, is-index)
-
-      module _ (b : n < p) where
-        past : ltb (sizeOf c (indexOf c name)) p ≡ true
-        past = rw (← size-is) (lt-ltb n p b)
-
-        pub read-past : (tray : List ℕ) → refused 5 0 c tray ≡ read c name p tray
-        unfolding read
-        read-past tray = stop c tray _ _ 5 _ (omega arith) past ∙ past-3 c tray _ name _ rule e z q f g (x .known) is-known y
-
-        pub write-past : (vs : List ℕ) → refused 5 0 c [] ≡ write c name p vs
-        unfolding write
-        write-past vs = stop c [] _ _ 5 _ (omega arith) past ∙ past-3 c [] _ name _ rule e z q f g (x .known) is-known y
-
-        pub truncate-past : refused 5 0 c [] ≡ truncate c name p
-        unfolding truncate
-        truncate-past = stop c [] _ _ 5 _ (omega arith) past ∙ past-3 c [] _ name _ rule e z q f g (x .known) is-known y
-
-      module _ (b : p ≤ n) where
-        inside : ltb (sizeOf c (indexOf c name)) p ≡ false
-        inside = rw (← size-is) (le-ltb n p b)
-
-        pub read-done : (tray tray′ : List ℕ) (r : ℕ) → r ≡ length (take (length tray) (drop p (streamBytes c s (x .index)))) → tray′ ≡ over tray 0 (take (length tray) (drop p (streamBytes c s (x .index))))
-            → counted r c tray′ ≡ read c name p tray
-        unfolding read
-        read-done tray tray′ r l m = rw (l, m, h, is-index) (none c tray _ ∙ pass c tray _ _ 5 [] inside ∙ past-3 c tray _ name _ rule e z q f g (x .known) is-known y)
-
-        pub truncate-done : (c′ : List ℕ) → c′ ≡ truncatedIn c s (x .index) p → done c′ [] ≡ truncate c name p
-        unfolding truncate
-        truncate-done c′ l = rw (l, h, is-index) (none c [] _ ∙ pass c [] _ _ 5 [] inside ∙ past-3 c [] _ name _ rule e z q f g (x .known) is-known y)
+      pub truncate-done : (c′ : List ℕ) → c′ ≡ truncatedIn c s k p → done c′ [] ≡ truncate c name p
+      unfolding truncate
+      truncate-done c′ l = rw (l, n .passed .cut, n .index) (none c [] _ ∙ past-end [] _ [])

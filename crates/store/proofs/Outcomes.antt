@@ -1,5 +1,5 @@
 -- Refusals in the order of the list: the first test that is true gives the number; where none is, the call does its work.
-use mathlib.Core.Path.{_≡_, refl, sym, _∙_}
+use mathlib.Core.Path.{_≡_, refl, _∙_}
 use mathlib.Core.Bool.{Bool, true, false, not}
 use mathlib.Core.List.{List, [], _∷_}
 use Prim.Native.Nat.{ℕ, _≤_}
@@ -26,32 +26,31 @@ module _ (c t : List ℕ) (o : Outcome) where
   unfolding firstNo
   none = refl
 
-  module _ (tests : List Test) (rule : ℕ) (e : rule ≡ broken c) where
-    pub refuse-1 : (rule ≡ 0 → ⊥) → refused 1 rule c t ≡ unless (damaged c ∷ tests) c t o
+  module _ (tests : List Test) where
+    pub refuse-1 : eqb (broken c) 0 ≡ false → refused 1 (broken c) c t ≡ unless (damaged c ∷ tests) c t o
     unfolding firstNo
-    refuse-1 h = rw (← e, ne-eqb rule 0 h)
+    refuse-1 e = rw e
 
-    pub past-1 : rule ≡ 0 → unless tests c t o ≡ unless (damaged c ∷ tests) c t o
-    past-1 z = pass (not (eqb (broken c) 0)) 1 tests (rw (← e, z))
+    pub past-1 : broken c ≡ 0 → unless tests c t o ≡ unless (damaged c ∷ tests) c t o
+    past-1 z = pass (not (eqb (broken c) 0)) 1 tests (rw z)
 
   -- the three that most calls begin with
-  module _ (name : List ℕ) (tests : List Test) (rule : ℕ) (e : rule ≡ broken c) (z : rule ≡ 0) (q : Bool) (f : q ≡ goodName name) where
-    pub refuse-2 : q ≡ false → refused 2 0 c t ≡ unless (damaged c ∷ badName name ∷ tests) c t o
-    refuse-2 g = stop (not (goodName name)) 2 tests (omega arith) (rw (← f, g)) ∙ past-1 (badName name ∷ tests) rule e z
+  module _ (name : List ℕ) (tests : List Test) (z : broken c ≡ 0) where
+    pub refuse-2 : goodName name ≡ false → refused 2 0 c t ≡ unless (damaged c ∷ badName name ∷ tests) c t o
+    refuse-2 g = stop (not (goodName name)) 2 tests (omega arith) (rw g) ∙ past-1 (badName name ∷ tests) z
 
-    module _ (g : q ≡ true) where
-      past-2 : unless tests c t o ≡ unless (damaged c ∷ badName name ∷ tests) c t o
-      past-2 = pass (not (goodName name)) 2 tests (rw (← f, g)) ∙ past-1 (badName name ∷ tests) rule e z
+    past-2 : goodName name ≡ true → unless tests c t o ≡ unless (damaged c ∷ badName name ∷ tests) c t o
+    past-2 g = pass (not (goodName name)) 2 tests (rw g) ∙ past-1 (badName name ∷ tests) z
 
-  module _ (name : List ℕ) (tests : List Test) (rule : ℕ) (e : rule ≡ broken c) (z : rule ≡ 0) (q : Bool) (f : q ≡ goodName name) (g : q ≡ true) (k : Bool) (h : k ≡ known c name) where
-    pub refuse-3 : k ≡ false → refused 3 0 c t ≡ unless (damaged c ∷ badName name ∷ notKnown c name ∷ tests) c t o
-    refuse-3 y = stop (not (known c name)) 3 tests (omega arith) (rw (← h, y)) ∙ past-2 name (notKnown c name ∷ tests) rule e z q f g
+  module _ (name : List ℕ) (tests : List Test) (z : broken c ≡ 0) (g : goodName name ≡ true) where
+    pub refuse-3 : known c name ≡ false → refused 3 0 c t ≡ unless (damaged c ∷ badName name ∷ notKnown c name ∷ tests) c t o
+    refuse-3 y = stop (not (known c name)) 3 tests (omega arith) (rw y) ∙ past-2 name (notKnown c name ∷ tests) z g
 
-    pub past-3 : k ≡ true → unless tests c t o ≡ unless (damaged c ∷ badName name ∷ notKnown c name ∷ tests) c t o
-    past-3 y = pass (not (known c name)) 3 tests (rw (← h, y)) ∙ past-2 name (notKnown c name ∷ tests) rule e z q f g
+    pub past-3 : known c name ≡ true → unless tests c t o ≡ unless (damaged c ∷ badName name ∷ notKnown c name ∷ tests) c t o
+    past-3 y = pass (not (known c name)) 3 tests (rw y) ∙ past-2 name (notKnown c name ∷ tests) z g
 
-    pub refuse-4 : k ≡ true → refused 4 0 c t ≡ unless (damaged c ∷ badName name ∷ alreadyKnown c name ∷ tests) c t o
-    refuse-4 y = stop (known c name) 4 tests (omega arith) (sym h ∙ y) ∙ past-2 name (alreadyKnown c name ∷ tests) rule e z q f g
+    pub refuse-4 : known c name ≡ true → refused 4 0 c t ≡ unless (damaged c ∷ badName name ∷ alreadyKnown c name ∷ tests) c t o
+    refuse-4 y = stop (known c name) 4 tests (omega arith) y ∙ past-2 name (alreadyKnown c name ∷ tests) z g
 
-    pub past-4 : k ≡ false → unless tests c t o ≡ unless (damaged c ∷ badName name ∷ alreadyKnown c name ∷ tests) c t o
-    past-4 y = pass (known c name) 4 tests (sym h ∙ y) ∙ past-2 name (alreadyKnown c name ∷ tests) rule e z q f g
+    pub past-4 : known c name ≡ false → unless tests c t o ≡ unless (damaged c ∷ badName name ∷ alreadyKnown c name ∷ tests) c t o
+    past-4 y = pass (known c name) 4 tests y ∙ past-2 name (alreadyKnown c name ∷ tests) z g

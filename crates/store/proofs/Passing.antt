@@ -1,4 +1,4 @@
--- A card that passed the check: what the acts ask for is there.
+-- A card that passed the check, and a name looked for on it: what the acts ask for is there.
 use mathlib.Core.Path.{_≡_, sym, ap, subst, _∙_}
 use mathlib.Core.Bool.{Bool, true, false}
 use mathlib.Core.List.{List, []}
@@ -8,7 +8,7 @@ use lib.ListN.{length}
 use Rattle.layout.specs.Bytes.{pick}
 use Rattle.layout.specs.Blocks.{chain}
 use Rattle.layout.specs.Streams.{stream}
-use Rattle.layout.specs.Filing.{goodName, entriesOf, lookIn}
+use Rattle.layout.specs.Filing.{goodName, lookIn}
 use Rattle.layout.specs.Header.{shapeOf, shiftOf}
 use Rattle.layout.specs.Sound.{rule1, rule2, rule3, rule4, rule5, rule6, rule7, rule8, broken}
 use Rattle.layout.specs.Ranges.{Small}
@@ -20,13 +20,10 @@ use Rattle.laws.proofs.State.{Whole, Core, livesOf}
 use Rattle.laws.proofs.Soundness.{sound}
 use Rattle.laws.proofs.Entries.{look-name}
 use Rattle.laws.proofs.Directories.{good-short}
-use Rattle.filing.specs.Located.{located}
 use Rattle.acts.specs.Fits.{Fits}
 use Rattle.acts.proofs.Fitting.{fits, live-low, small}
-use Rattle.acts.proofs.Rooted.{found-is}
 use Rattle.acts.proofs.Sound.{root-live, index-live, entry-low, size-low as pulled-low}
 use Rattle.store.proofs.Outcomes.{none, past-1}
-use Rattle.filing.specs.declared.entries.Found.{Found}
 use Rattle.layout.specs.declared.Shape.{Shape}
 use Rattle.layout.specs.declared.Desc.{Desc}
 
@@ -44,74 +41,86 @@ eight c =
 pub rule-low : (c : List ℕ) (r : ℕ) → r ≡ broken c → r < 256
 rule-low c r e = omega (arith, e, eight c)
 
+pub shift-fits : (c : List ℕ) (r : ℕ) → r ≡ broken c → r ≡ 0 → shiftOf c ≤ 12
+shift-fits c r e z = sound c (sym e ∙ z) .core .headed .most
+
 pub name-fits : (name : List ℕ) (q : Bool) → q ≡ goodName name → q ≡ true → length name ≤ 64
 name-fits name q e t = good-short name (rw (← e, t) tt)
 
-module _ (c : List ℕ) (rule : ℕ) (e : rule ≡ broken c) (z : rule ≡ 0) where
-  pub passed : Whole c
-  passed = sound c (sym e ∙ z)
+-- ---- a card that passed
 
-  module _ (s : Shape) (f : s ≡ shapeOf c) where
-    pub small-of : Small c s
-    small-of = rw f (small c (passed .core))
+pub record Passed (c : List ℕ) (s : Shape) : Type 0 where
+  pub unbroken : broken c ≡ 0
+  pub cut : s ≡ shapeOf c
 
-    pub root-low : stream c s 0 .size < 2 ^ 62
-    root-low = rw f (omega (arith, live-low c (shapeOf c) (passed .core) 0 (root-live c passed) .1))
+module _ {c : List ℕ} {s : Shape} (p : Passed c s) where
+  pub whole : Whole c
+  whole = sound c (p .unbroken)
 
-    pub room-done : (n : ℕ) → n ≡ length (chain c s) → counted n c [] ≡ room c
-    unfolding room
-    room-done n g = rw (g, f) (none c [] _ ∙ past-1 c [] _ [] rule e z)
+  pub core : Core c s
+  core = subst (λ (t : Shape). Core c t) (sym (p .cut)) (whole .core)
 
-    pub root-lower : stream c s 0 .size < 2 ^ 61
-    root-lower = rw f (live-low c (shapeOf c) (passed .core) 0 (root-live c passed) .1)
+  pub small-of : Small c s
+  small-of = rw (p .cut) (small c (whole .core))
 
-    pub fits-of : Fits c s
-    fits-of = rw f (fits c (shapeOf c) (passed .core))
+  pub fits-of : Fits c s
+  fits-of = fits c s core
 
-  pub shift-fits : shiftOf c ≤ 12
-  shift-fits = passed .core .headed .most
+  pub root-lower : stream c s 0 .size < 2 ^ 61
+  root-lower = rw (p .cut) (live-low c (shapeOf c) (whole .core) 0 (root-live c whole) .1)
 
-  -- ---- a name that was looked for
+  pub root-low : stream c s 0 .size < 2 ^ 62
+  root-low = omega (arith, root-lower)
 
-  module _ (s : Shape) (f : s ≡ shapeOf c) (name : List ℕ) (x : Found) (g : x ≡ located (entriesOf c s 0) name 0) where
-    found : (x .known ≡ known c name) × (x .index ≡ indexOf c name) × (x .at ≡ entryOf c name .at)
-    found = found-is c name x (g ∙ rw f)
+  -- the root, by its descriptor
+  pub root-size : (t : Desc) → t ≡ stream c s 0 → t .size < 2 ^ 62
+  root-size t e = rw e root-low
 
-    pub known-is : x .known ≡ known c name
-    known-is = found .0
+  pub room-done : (n : ℕ) → n ≡ length (chain c s) → counted n c [] ≡ room c
+  unfolding room
+  room-done n g = rw (g, p .cut) (none c [] _ ∙ past-1 c [] _ [] (p .unbroken))
 
-    pub index-is : x .index ≡ indexOf c name
-    index-is = found .1
+-- ---- a good name on it that is not known
 
-    pub at-is : x .at ≡ entryOf c name .at
-    at-is = found .2
+pub record Fresh (c name : List ℕ) (s : Shape) : Type 0 where
+  pub passed : Passed c s
+  pub good : goodName name ≡ true
+  pub new : known c name ≡ false
 
-    module _ (k : x .known ≡ true) where
-      pub there : lookIn (rootOf c) name < length (rootOf c)
-      there = is-ltb (lookIn (rootOf c) name) (length (rootOf c)) .out (rw (← known-is, k) tt)
+-- ---- one that is known: the index of its stream, and where its entry starts
 
-      pub live-of : In (x .index) (livesOf c s)
-      live-of = rw (f, index-is) (index-live c passed (lookIn (rootOf c) name) there)
+pub record Named (c name : List ℕ) (s : Shape) (k at : ℕ) : Type 0 where
+  pub passed : Passed c s
+  pub good : goodName name ≡ true
+  pub found : known c name ≡ true
+  pub index : k ≡ indexOf c name
+  pub place : at ≡ entryOf c name .at
 
-      pub index-low : x .index < 2 ^ 56
-      index-low = live-low c s (subst (λ (t : Shape). Core c t) (sym f) (passed .core)) (x .index) live-of .0
+module _ {c name : List ℕ} {s : Shape} {k at : ℕ} (n : Named c name s k at) where
+  pub there : lookIn (rootOf c) name < length (rootOf c)
+  there = is-ltb (lookIn (rootOf c) name) (length (rootOf c)) .out (rw (n .found) tt)
 
-      pub size-low : stream c s (x .index) .size < 2 ^ 61
-      size-low = live-low c s (subst (λ (t : Shape). Core c t) (sym f) (passed .core)) (x .index) live-of .1
+  pub live-of : In k (livesOf c s)
+  live-of = rw (n .passed .cut, n .index) (index-live c (whole (n .passed)) (lookIn (rootOf c) name) there)
 
-      pub size-fits : (t : Desc) → t ≡ stream c s (x .index) → t .size < 2 ^ 61
-      size-fits t a = rw a size-low
+  pub index-low : k < 2 ^ 56
+  index-low = live-low c s (core (n .passed)) k live-of .0
 
-      -- its entry, and the root once the stream is freed
-      pub entry-fits : x .at + length name < 2 ^ 61
-      entry-fits =
-          let n : length (entryOf c name .name) ≡ length name = ap length (look-name (rootOf c) name there) in
-          omega (arith, at-is, n, entry-low c passed (lookIn (rootOf c) name) there)
+  -- what an act asks of every stream
+  pub asked : Small c s × (k < 2 ^ 56)
+  asked = (small-of (n .passed), index-low)
 
-      pub pull-fits : stream (undescribed c s (x .index)) s 0 .size < 2 ^ 62
-      pull-fits = rw (index-is, f) (pulled-low c passed (lookIn (rootOf c) name) there)
+  pub size-low : stream c s k .size < 2 ^ 61
+  size-low = live-low c s (core (n .passed)) k live-of .1
 
--- ---- the root, by its descriptor
+  pub size-fits : (t : Desc) → t ≡ stream c s k → t .size < 2 ^ 61
+  size-fits t a = rw a size-low
 
-pub root-size : (c : List ℕ) (s : Shape) (t : Desc) → t ≡ stream c s 0 → stream c s 0 .size < 2 ^ 62 → t .size < 2 ^ 62
-root-size c s t e h = rw e h
+  -- its entry, and the root once the stream is freed
+  pub entry-fits : at + length name < 2 ^ 61
+  entry-fits =
+      let m : length (entryOf c name .name) ≡ length name = ap length (look-name (rootOf c) name there) in
+      omega (arith, n .place, m, entry-low c (whole (n .passed)) (lookIn (rootOf c) name) there)
+
+  pub pull-fits : stream (undescribed c s k) s 0 .size < 2 ^ 62
+  pull-fits = rw (n .index, n .passed .cut) (pulled-low c (whole (n .passed)) (lookIn (rootOf c) name) there)

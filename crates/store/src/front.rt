@@ -1,18 +1,59 @@
-// What several calls use: the check, as the byte that DAMAGED holds, and the larger of two numbers.
+// What the calls begin with: the check, how the card is cut, and where the name is.
+use filing::entries::look_up;
+use filing::names::good_name;
+use heading::header::shape;
+use layout::Shape;
+use layout::answers::Refusal;
 ghost use mathlib.Core.Path.{_≡_};
-ghost use Prim.Native.Nat.{max};
-ghost use Rattle.layout.specs.Sound.{broken};
+ghost use Rattle.store.specs.Fronts.{examinedOf, soughtOf};
 
-// The lowest broken rule; 0 where there is none.
-pub fn examine(card: &[u8]) -> u8
-    ensures { λ r. ⌜ r ≡ broken (now (card .entry)) ⌝ }
-{
-    sound::check::check(card) as u8
+// Any bytes, checked: the lowest broken rule, or how the card is cut.
+pub enum Examined {
+    Damaged(u8),
+    Sound(Shape),
 }
 
-// The larger one.
-pub fn larger(a: usize, b: usize) -> usize
-    ensures { λ r. ⌜ r ≡ max a b ⌝ }
+// A name, sought on any bytes: why it is not sought, that it is not known, or its stream's index and where its entry starts.
+pub enum Sought {
+    Refused(Refusal),
+    Unknown(Shape),
+    Known {
+        shape: Shape,
+        index: usize,
+        at: usize,
+    },
+}
+
+// The card, checked.
+pub fn examine(card: &[u8]) -> Examined
+    ensures { λ r. ⌜ r ≡ examinedOf (now (card .entry)) ⌝ }
 {
-    if a <= b { b } else { a }
+    let rule = sound::check::check(card);
+    if rule != 0 {
+        return Examined::Damaged(rule as u8);
+    }
+    Examined::Sound(shape(card))
+}
+
+// The card checked, the name judged, and then sought in the root.
+pub fn seek(card: &[u8], name: &[u8]) -> Sought
+    ensures { λ r. ⌜ r ≡ soughtOf (now (card .entry)) (now (name .entry)) ⌝ }
+{
+    match examine(card) {
+        Examined::Damaged(rule) => Sought::Refused(Refusal::Damaged(rule)),
+        Examined::Sound(s) => {
+            if !good_name(name) {
+                return Sought::Refused(Refusal::BadName);
+            }
+            let f = look_up(card, s, 0, name);
+            if !f.known {
+                return Sought::Unknown(s);
+            }
+            Sought::Known {
+                shape: s,
+                index: f.index,
+                at: f.at,
+            }
+        }
+    }
 }

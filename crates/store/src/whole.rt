@@ -1,12 +1,12 @@
 // The calls on a whole card: format, check, room.
+use crate::front::Examined;
 use crate::front::examine;
+use heading::header::power;
 use layout::Shape;
 use layout::answers::Counted;
 use layout::answers::Done;
 use layout::answers::Refusal;
 use memory::numbers::minus;
-use sound::header::power;
-use sound::header::shape;
 ghost use Prim.Native.Nat.{_≤_};
 ghost use mathlib.Core.Path.{_≡_};
 ghost use Rattle.layout.specs.Header.{shaped, goodShape};
@@ -60,7 +60,7 @@ pub fn format(card: &mut [u8], shift: usize) -> Done
     if !good_shape(len, shift) {
         return Done::Refused(Refusal::BadShape);
     }
-    acts::format::format(card, cut(len, shift), shift);
+    formatting::format::format(card, cut(len, shift), shift);
     Done::Done
 }
 
@@ -68,20 +68,18 @@ pub fn format(card: &mut [u8], shift: usize) -> Done
 pub fn check(card: &[u8]) -> Done
     ensures { λ r. ⌜ Checks (now (card .entry)) r ⌝ }
 {
-    let rule = examine(card);
-    if rule != 0 {
-        return Done::Refused(Refusal::Damaged(rule));
+    match examine(card) {
+        Examined::Damaged(rule) => Done::Refused(Refusal::Damaged(rule)),
+        Examined::Sound(_) => Done::Done,
     }
-    Done::Done
 }
 
 // How many blocks are free.
 pub fn room(card: &[u8]) -> Counted
     ensures { λ r. ⌜ Rooms (now (card .entry)) r ⌝ }
 {
-    let rule = examine(card);
-    if rule != 0 {
-        return Counted::Refused(Refusal::Damaged(rule));
+    match examine(card) {
+        Examined::Damaged(rule) => Counted::Refused(Refusal::Damaged(rule)),
+        Examined::Sound(s) => Counted::Count(holding::room::room(card, s)),
     }
-    Counted::Count(acts::room::room(card, shape(card)))
 }

@@ -1,7 +1,7 @@
 -- Descriptors: three numbers written in a row are the fields, and 25 bytes on a page are the descriptor they came from.
 use mathlib.Core.Path.{_≡_, refl, sym, ap, _∙_}
 use mathlib.Core.List.{List, _++_}
-use Prim.Native.Nat.{ℕ, zero, suc, _+_, _*_, _≤_, _<_}
+use Prim.Native.Nat.{ℕ, zero, suc, _+_, _-_, _*_, _/_, _≤_, _<_}
 use native.Mathlib.Nat.{add-zero}
 use native.Mathlib.Decide.{decLt}
 use native.Mathlib.Omega.{arith}
@@ -10,9 +10,10 @@ use lib.Seq.{getD-take, getD-drop, take-all}
 use Rattle.layout.specs.Bytes.{num, bytes, over, put}
 use Rattle.layout.specs.Pyramid.{height}
 use Rattle.layout.specs.Blocks.{fan}
-use Rattle.layout.specs.Streams.{descIn, dataOf, fields, contents, laid, table, tableBytes, offset, descOf, stream, inTable, inStream, descSet}
+use Rattle.layout.specs.Streams.{descIn, dataOf, fields, contents, laid, table, tableBytes, offset, slots, descOf, stream, inTable, inStream, descSet}
 use Rattle.laws.proofs.ByteLaws.{length-bytes, length-over, over-append, over-in, over-out, take-over}
 use Rattle.laws.proofs.Descs.{length-fields}
+use Rattle.laws.proofs.Laying.{length-contents}
 use Rattle.layout.specs.declared.Shape.{Shape}
 use Rattle.layout.specs.declared.Desc.{Desc}
 
@@ -107,3 +108,8 @@ over-whole l vs e =
 pub number-laid : (c c₁ page : List ℕ) (s : Shape) (p v : ℕ) → page ≡ put 8 (replicate 8 0) 0 v → c₁ ≡ inTable c s p page → c₁ ≡ inTable c s p (bytes 8 v)
 unfolding put
 number-laid c c₁ page s p v e f = f ∙ rw (e, over-whole (replicate 8 0) (bytes 8 v) (length-bytes 8 v))
+
+-- how many descriptors the table has, by its size
+pub slots-is : (c : List ℕ) (s : Shape) (t : Desc) (x : ℕ) → t ≡ table c s → x ≡ t .size - 8 → x / 25 ≡ slots (tableBytes c s)
+unfolding tableBytes
+slots-is c s t x e f = rw (length-contents c s (table c s .top) (dataOf s (table c s)) (table c s .size), f, e)

@@ -1,4 +1,2 @@
-pub mod Blockwise
-pub mod Rowwise
 pub mod Fields
 pub mod Sizes

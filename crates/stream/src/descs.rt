@@ -1,17 +1,18 @@
 // Descriptors: the table's own in the header, all others in the table's stream.
-use crate::gather::gather_stream;
-use crate::lay::lay;
-use blocks::pyramid::height;
+use laying::gather::gather_stream;
+use laying::lay::lay;
 use layout::Desc;
 use layout::Shape;
 use memory::bytes::byte;
 use memory::bytes::number;
 use memory::bytes::put_number;
+use memory::numbers::minus;
 use memory::numbers::wide;
+use pyramids::pyramid::height;
 ghost use mathlib.Core.Path.{_≡_};
 ghost use Prim.Native.Nat.{_+_, _*_, _^_, _<_};
 ghost use Rattle.layout.specs.Bytes.{over};
-ghost use Rattle.layout.specs.Streams.{descIn, fields, table, tableSet, stream, descSet};
+ghost use Rattle.layout.specs.Streams.{descIn, fields, table, tableBytes, tableSet, slots, stream, descSet};
 ghost use Rattle.layout.specs.Ranges.{Small};
 
 // The descriptor in the 25 bytes at `at`.
@@ -43,6 +44,14 @@ pub fn table(card: &[u8], s: Shape) -> Desc
     ensures { λ r. ⌜ r ≡ table (now (card .entry)) s ⌝ }
 {
     descriptor(card, s.table)
+}
+
+// How many descriptors the table has.
+pub fn descriptors(card: &[u8], s: Shape) -> usize
+    requires { ⌜ Small (now card) s ⌝ }
+    ensures { λ r. ⌜ r ≡ slots (tableBytes (now (card .entry)) s) ⌝ }
+{
+    minus(table(card, s).size, 8) / 25
 }
 
 // The table's own descriptor, set.

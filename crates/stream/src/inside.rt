@@ -1,12 +1,12 @@
 // The table and the streams by their index: numbers read from the table, bytes laid where the card says that they go.
 use crate::descs::stream;
 use crate::descs::table;
-use crate::gather::gather_stream;
-use crate::lay::lay;
-use blocks::pyramid::height;
+use laying::gather::gather_stream;
+use laying::lay::lay;
 use layout::Shape;
 use memory::bytes::number;
 use memory::bytes::put_number;
+use pyramids::pyramid::height;
 ghost use mathlib.Core.Path.{_≡_};
 ghost use Prim.Native.Nat.{_^_, _<_, _≤_};
 ghost use lib.ListN.{length, take};

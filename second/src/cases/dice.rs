@@ -8,6 +8,11 @@ pub const MODULUS: u64 = 2_147_483_647;
 pub struct Dice(u64);
 
 impl Dice {
+    /// Starts at a state.
+    pub fn at(state: u64) -> Dice {
+        Dice(state)
+    }
+
     /// Starts at a state, and throws three rolls away.
     pub fn new(state: u64) -> Dice {
         let mut dice = Dice(state);

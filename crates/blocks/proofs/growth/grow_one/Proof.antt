@@ -18,19 +18,6 @@ returns c =
     let at-take-block = c .before .before .take-block in
     grown-first _ _ _ _ _ _ (at-if1 .taken) (at-take-block .ensures .0) (at-take-block .ensures .1)
 
-height-requires : tie.Need-height-requires
-height-requires c κs =
-    let at-start = c .before .before .before in
-    fan-two _ (at-start .pre .0 .least)
-
-add-height : tie.Need-add-height
-add-height c = search needs
-
-height-requires-2 : tie.Need-height-requires-2
-height-requires-2 c κs =
-    let at-start = c .before .before .before .before in
-    fan-two _ (at-start .pre .0 .least)
-
 raise-requires : tie.Need-raise-requires
 raise-requires c κs = search needs
 
@@ -42,32 +29,29 @@ same-length-2 c = search needs
 
 returns-2 : tie.Need-returns-2
 returns-2 c =
-    let at-if1 = c .before .before .before .before .before .before .before .before .before .before .before .before .if1 in
-    let at-height = c .before .before .before .before .before .before .before .before .before .before .height in
-    let at-height2 = c .before .before .before .before .before .before .before .before .before .height2 in
+    let at-if1 = c .before .before .before .before .before .before .before .before .before .if1 in
+    let at-start = c .before .before .before .before .before .before .before .before .before .before .before in
     let at-if2 = c .before .before .before .before .before .before .before .before .if2 in
     let at-raise = c .before .before .before .before .before .before .raise in
     let at-root = c .before .before .root in
-    grown-raised _ _ _ _ _ _ _ _ _ (at-if1 .left) (at-height .ensures .0) (at-height2 .ensures .0) (at-if2 .taken) (at-raise .ensures .0) (at-raise .ensures .1) (at-root .ensures)
+    grown-raised _ _ _ _ _ _ _ _ _ (at-if1 .left) (at-start .pre .1) (at-start .pre .2) (at-if2 .taken) (at-raise .ensures .0) (at-raise .ensures .1) (at-root .ensures)
 
 root-requires-2 : tie.Need-root-requires-2
 root-requires-2 c κs =
-    let at-start = c .before .before .before .before .before .before .before in
-    let at-if1 = c .before .before .before .before .before .if1 in
-    let at-height2 = c .before .before .height2 in
-    (search needs, tall-some _ (fan-two _ (at-start .pre .0 .least)) _ _ (pos-of-ne-zero (at-if1 .left)) (at-height2 .ensures .0))
+    let at-start = c .before .before .before .before in
+    let at-if1 = c .before .before .if1 in
+    (search needs, tall-some _ (fan-two _ (at-start .pre .0 .least)) _ _ (pos-of-ne-zero (at-if1 .left)) (at-start .pre .2))
 
 same-length-3 : tie.Need-same-length-3
 same-length-3 c = search needs
 
 returns-3 : tie.Need-returns-3
 returns-3 c =
-    let at-if1 = c .before .before .before .before .before .before .before .before .if1 in
-    let at-height = c .before .before .before .before .before .before .height in
-    let at-height2 = c .before .before .before .before .before .height2 in
+    let at-if1 = c .before .before .before .before .before .if1 in
+    let at-start = c .before .before .before .before .before .before .before in
     let at-if2 = c .before .before .before .before .if2 in
     let at-root2 = c .before .before .root2 in
-    grown-same _ _ _ _ _ _ _ (at-if1 .left) (at-height .ensures .0) (at-height2 .ensures .0) (at-if2 .left) (at-root2 .ensures)
+    grown-same _ _ _ _ _ _ _ (at-if1 .left) (at-start .pre .1) (at-start .pre .2) (at-if2 .left) (at-root2 .ensures)
 
 pub grow-one-spec : {M : Type 1} → statement M
 grow-one-spec =
@@ -76,9 +60,6 @@ grow-one-spec =
     take-block-requires
     same-length
     returns
-    height-requires
-    add-height
-    height-requires-2
     raise-requires
     root-requires
     same-length-2

@@ -11,7 +11,7 @@ use Rattle.blocks.proofs.reader.reader.Reads as reader
 use Rattle.blocks.proofs.reader.reader.Kinds as reader-kinds
 use Rattle.blocks.proofs.reader.+reader.Lts-reader as reader-lts
 use Rattle.blocks.proofs.places.index.Reads as index-reads
-use Rattle.blocks.proofs.pyramid.above.Reads as above-reads
+use Rattle.pyramids.proofs.pyramid.above.Reads as above-reads
 use Rattle.blocks.proofs.reader.+reader.{statement}
 use Rattle.blocks.proofs.reader.+reader.Tie.{close}
 

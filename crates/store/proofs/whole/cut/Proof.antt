@@ -1,7 +1,7 @@
 -- `store::whole::cut` keeps its promise.
 use borrow.Author.Needs.{needs}
 use native.Mathlib.Omega.{arith}
-use Rattle.sound.proofs.Heading.{power-some}
+use Rattle.heading.proofs.Heading.{power-some}
 use Rattle.store.proofs.Shaping.{cut-is}
 use Rattle.store.proofs.whole.cut.Statement.{statement}
 use Rattle.store.proofs.whole.cut.Tie as tie

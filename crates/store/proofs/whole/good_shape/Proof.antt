@@ -1,6 +1,6 @@
 -- `store::whole::good_shape` keeps its promise.
 use borrow.Author.Needs.{needs}
-use Rattle.sound.proofs.Heading.{power-some}
+use Rattle.heading.proofs.Heading.{power-some}
 use Rattle.store.proofs.Shaping.{shift-low, shift-high, no-header, rest-part, rest-none, rest-last}
 use Rattle.store.proofs.whole.good_shape.Statement.{statement}
 use Rattle.store.proofs.whole.good_shape.Tie as tie

@@ -1,0 +1,2 @@
+pub mod Blockwise
+pub mod Rowwise

@@ -1,0 +1,5 @@
+pub mod Every
+pub mod Shaped
+pub mod Compared
+pub mod Paged
+pub mod Spares

@@ -1,0 +1,62 @@
+// Rule 7: the free chain, marked block by block; it ends on any bytes.
+use blocks::chain::first_free;
+use blocks::chain::next;
+use layout::Shape;
+use marking::marks::mark;
+use memory::bytes::byte;
+ghost use mathlib.Core.Path.{_≡_};
+ghost use Prim.Native.Nat.{_≤_};
+ghost use lib.ListN.{length};
+ghost use Rattle.layout.specs.Marks.{markOk, markSet, fallingIn};
+ghost use Rattle.layout.specs.Blocks.{chain};
+ghost use Rattle.layout.specs.Sound.{rule7};
+ghost use Rattle.layout.specs.Ranges.{Small};
+ghost use Rattle.usage.specs.Used.{InUse};
+
+// Marks the blocks of the free chain, or finds one that it can't mark.
+fn mark_chain(card: &[u8], s: Shape, marks: &mut [u8]) -> bool
+    requires { ⌜ Small (now card) s ⌝ }
+    ensures { λ r. ⌜ (r ≡ markOk (s .count) (now (marks .entry)) (chain (now (card .entry)) s)) × (now (marks .exit) ≡ markSet (s .count) (now (marks .entry)) (chain (now (card .entry)) s)) ⌝ }
+{
+    let count = s.count;
+    let mut b = first_free(&*card, s);
+    let mut left = count + 1;
+    while 0 < left {
+        if b == 0xffff_ffff_ffff_ffff {
+            return true;
+        }
+        if !mark(marks, count, b) {
+            return false;
+        }
+        b = next(&*card, s, b);
+        left -= 1;
+    }
+    true
+}
+
+// How many of the first `n` blocks are marked.
+fn count_marks(marks: &[u8], n: usize) -> usize
+    ensures { λ r. ⌜ (r ≡ length (fallingIn n (now (marks .entry)))) × (r ≤ n) ⌝ }
+{
+    let mut left = n;
+    let mut found = 0;
+    while 0 < left {
+        left -= 1;
+        if byte(&*marks, left) != 0 {
+            found += 1;
+        }
+    }
+    found
+}
+
+// Rule 7, on marks that hold the blocks in use: the chain's blocks are apart from them, and then no block is left over.
+pub fn rule7(card: &[u8], s: Shape, marks: &mut [u8]) -> bool
+    requires { ⌜ Small (now card) s × InUse (now card) s (now marks) ⌝ }
+    ensures { λ r. ⌜ r ≡ rule7 (now (card .entry)) s ⌝ }
+{
+    if !mark_chain(&*card, s, marks) {
+        return false;
+    }
+    let count = s.count;
+    count_marks(&*marks, count) == count
+}
