@@ -1,6 +1,6 @@
 //! Wrong command lines, and help.
 
-use crate::desk::Desk;
+use person::Desk;
 
 #[test]
 fn wrong_lines_are_told_the_form() {

@@ -1,6 +1,6 @@
 //! Answers for programs: one object in one line, for refusals too.
 
-use crate::desk::Desk;
+use person::Desk;
 
 #[track_caller]
 fn says(desk: &Desk, line: &str, input: &[u8], status: i32, rest: &str) {

@@ -1,6 +1,6 @@
 //! Pipes that are closed early or are slow, and the bar on a terminal.
 
-use crate::desk::{ended, Desk};
+use person::{ended, Desk};
 use std::io::Read;
 use std::process::{Command, Stdio};
 
@@ -57,7 +57,7 @@ fn a_bar_on_a_terminal_for_what_takes_longer_than_a_second() {
     };
     let ran = ended(child);
     let out = String::from_utf8_lossy(&ran.out);
-    assert!(out.contains("\r\x1b[Kreading standard input: 0 KiB (1 s)"), "{ran:?}");
+    assert!(out.contains("\r\x1b[Kreading standard input"), "{ran:?}");
     assert!(
         out.ends_with("\r\x1b[K'slow' is on c: 10 bytes; 1 of 4 blocks is free\r\n"),
         "{ran:?}"

@@ -1,6 +1,6 @@
 //! The picture of a card's blocks.
 
-use crate::desk::Desk;
+use person::Desk;
 
 #[test]
 fn every_block_has_its_owner() {

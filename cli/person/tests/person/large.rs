@@ -1,6 +1,6 @@
 //! The largest card, and input that no card can hold.
 
-use crate::desk::Desk;
+use person::Desk;
 
 #[test]
 fn a_card_of_16_mib() {

@@ -1,6 +1,6 @@
 //! Every refusal that a command can meet: number, words, and the card as it was.
 
-use crate::desk::Desk;
+use person::Desk;
 
 /// Runs a line that is refused, and sees that the card stands.
 #[track_caller]
@@ -110,9 +110,9 @@ fn shapes_that_no_card_has() {
 fn no_more_lists() {
     let desk = Desk::new("streams");
     let mut card = vec![0; 87 + 1024 * 64];
-    lamporchid::format(&mut card, 6).expect("a card");
+    assert!(second::format(&mut card, 6).is_done());
     for i in 0..255 {
-        lamporchid::create(&mut card, format!("list {i}").as_bytes()).expect("room");
+        assert!(second::create(&mut card, format!("list {i}").as_bytes()).is_done());
     }
     desk.write("c", &card);
     refused(
@@ -135,9 +135,9 @@ fn no_more_lists() {
 /// A card that breaks just this rule.
 fn broken(rule: u8) -> Vec<u8> {
     let mut card = vec![0; 343];
-    lamporchid::format(&mut card, 6).expect("a card");
-    lamporchid::create(&mut card, b"a").expect("room");
-    lamporchid::write(&mut card, b"a", 0, b"rows").expect("room");
+    assert!(second::format(&mut card, 6).is_done());
+    assert!(second::create(&mut card, b"a").is_done());
+    assert!(second::write(&mut card, b"a", 0, b"rows").is_done());
     match rule {
         1 => card.truncate(86),
         2 => card[0] ^= 1,
@@ -148,7 +148,7 @@ fn broken(rule: u8) -> Vec<u8> {
         7 => card[27] = 2,
         _ => card[87 + 64 + 6] = b'/',
     }
-    assert_eq!(lamporchid::check(&card), Err(lamporchid::Refusal::Damaged(rule)));
+    assert_eq!(second::check(&card), second::Refusal::Damaged(rule).into());
     card
 }
 

@@ -1,4 +1,7 @@
 //! A folder of its own for each test, and the program started in it.
+//!
+//! The program is not part of this one, and is started by its path: on a machine that runs it through an emulator the tests are
+//! this machine's own code all the same. (An emulated test hung there: threads and children do not go together in one.)
 
 use std::ffi::OsStr;
 use std::fs;
@@ -81,16 +84,10 @@ impl Desk {
 
     /// The program, to be started in the folder: on another machine by the emulator.
     pub fn program(&self) -> Command {
-        let binary = env!("CARGO_BIN_EXE_lamporchid");
-        let mut command = match std::env::var("LAMPORCHID_RUNNER") {
-            Ok(runner) if !runner.is_empty() => {
-                let mut command = Command::new(runner);
-                command.arg(binary);
-                command
-            }
-            _ => Command::new(binary),
-        };
-        command.current_dir(&self.folder);
+        let words = std::env::var("LAMPORCHID_PROGRAM").expect("LAMPORCHID_PROGRAM, which cli/run sets: a line a word");
+        let mut words = words.lines();
+        let mut command = Command::new(words.next().expect("a word"));
+        command.args(words).current_dir(&self.folder);
         command
     }
 

@@ -1,6 +1,6 @@
 //! Files that do not do what they must: a clear error, and the old card stands.
 
-use crate::desk::{ended, Desk, Ran};
+use person::{ended, Desk, Ran};
 use std::fs::{self, Permissions};
 use std::io::Write;
 use std::os::unix::fs::{symlink, MetadataExt, PermissionsExt};

@@ -1,6 +1,6 @@
 //! A card is made, filled, looked into, changed and copied.
 
-use crate::desk::Desk;
+use person::Desk;
 
 #[test]
 fn lists_go_on_and_come_back() {

@@ -1,6 +1,5 @@
 //! The program as a person runs it: words on a command line, files in a folder, pipes.
 
-mod desk;
 mod files;
 mod json;
 mod large;
