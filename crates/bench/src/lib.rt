@@ -249,7 +249,8 @@ pub extern "C" fn bench_lay(
 pub extern "C" fn bench_check(card: &[u8]) -> usize
     ensures { λ r. ⌜ r ≡ broken (now (card .entry)) ⌝ }
 {
-    check(card)
+    let v = check(card);
+    v.rule
 }
 
 // The same with 65,536 marks, for the test of the stack.
@@ -259,5 +260,6 @@ pub extern "C" fn bench_check_wide(card: &[u8]) -> usize
 {
     let mut tab = [0; 6408];
     let mut marks = [0; 65536];
-    check_on(card, &mut tab, &mut marks)
+    let v = check_on(card, &mut tab, &mut marks);
+    v.rule
 }

@@ -1,4 +1,4 @@
-// The free chain: its links, its length, taking its head.
+// The free chain: its links, whether it is long enough, taking its head.
 use crate::places::place;
 use crate::places::slot;
 use layout::Shape;
@@ -6,9 +6,7 @@ use memory::bytes::number;
 use memory::bytes::put_number;
 use memory::runs::clear;
 ghost use mathlib.Core.Path.{_≡_};
-ghost use Prim.Native.Nat.{_+_, _≤_};
-ghost use lib.ListN.{length};
-ghost use Rattle.layout.specs.Blocks.{wide, narrow, firstFree, next, chain, enough, taken};
+ghost use Rattle.layout.specs.Blocks.{wide, narrow, firstFree, next, enough, taken};
 ghost use Rattle.layout.specs.Ranges.{Small};
 
 // A link's number as the header would hold it.
@@ -45,25 +43,6 @@ pub fn next(card: &[u8], s: Shape, b: usize) -> usize
     ensures { λ r. ⌜ r ≡ next (now (card .entry)) s b ⌝ }
 {
     widened(slot(&*card, s, b, 0))
-}
-
-// How many blocks the chain has; one more than the card has, where it does not end.
-pub fn free_count(card: &[u8], s: Shape) -> usize
-    requires { ⌜ Small (now card) s ⌝ }
-    ensures { λ r. ⌜ (r ≡ length (chain (now (card .entry)) s)) × (r ≤ s .count + 1) ⌝ }
-{
-    let mut b = first_free(&*card, s);
-    let mut left = s.count + 1;
-    let mut n = 0;
-    while 0 < left {
-        if b == 0xffff_ffff_ffff_ffff {
-            return n;
-        }
-        b = next(&*card, s, b);
-        n += 1;
-        left -= 1;
-    }
-    n
 }
 
 // Whether `n` blocks are free, in at most `n` steps.

@@ -57,7 +57,8 @@ fn sum(card: &[u8]) -> usize
 
 // The rule that the check gives, and the sum.
 fn answer(card: &[u8]) {
-    io::print_decimal(1, sound::check::check(card) as u64);
+    let v = sound::check::check(card);
+    io::print_decimal(1, v.rule as u64);
     io::write_all(1, b" ");
     io::print_decimal(1, sum(card) as u64);
     io::write_all(1, b"\n");

@@ -1,25 +1,15 @@
-// How many blocks are free, whether so many are, and how many a longer stream takes.
+// Whether so many blocks are free, and how many a longer stream takes.
 use blocks::chain::enough;
-use blocks::chain::free_count;
 use layout::Desc;
 use layout::Shape;
 use memory::numbers::minus;
 use pyramids::pyramid::needed;
 use pyramids::pyramid::up;
 ghost use mathlib.Core.Path.{_≡_};
-ghost use Prim.Native.Nat.{_+_, _^_, _<_, _≤_};
-ghost use lib.ListN.{length};
-ghost use Rattle.layout.specs.Blocks.{chain, enough};
+ghost use Prim.Native.Nat.{_^_, _<_, _≤_};
+ghost use Rattle.layout.specs.Blocks.{enough};
 ghost use Rattle.layout.specs.Streams.{wants};
 ghost use Rattle.layout.specs.Ranges.{Small};
-
-// How many blocks are free.
-pub fn room(card: &[u8], s: Shape) -> usize
-    requires { ⌜ Small (now card) s ⌝ }
-    ensures { λ r. ⌜ (r ≡ length (chain (now (card .entry)) s)) × (r ≤ s .count + 1) ⌝ }
-{
-    free_count(card, s)
-}
 
 // Whether `n` blocks are free.
 pub fn has_room(card: &[u8], s: Shape, n: usize) -> bool

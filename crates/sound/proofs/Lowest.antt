@@ -1,70 +1,85 @@
 -- The lowest broken rule, test by test; and a card that passes rule 3 has small numbers.
-use mathlib.Core.Path.{_≡_, _∙_}
-use mathlib.Core.Bool.{true, false}
+use mathlib.Core.Path.{_≡_, refl, _∙_}
+use mathlib.Core.Bool.{Bool, true, false}
 use mathlib.Core.List.{List}
-use Prim.Native.Nat.{ℕ, _-_, _*_, _/_, _%_, _^_, _≤_}
+use Prim.Native.Nat.{ℕ, _+_, _-_, _*_, _/_, _%_, _^_, _≤_}
 use native.Mathlib.Nat.{div-add-mod', mul-le-mul, pow-le-pow-right}
 use native.Mathlib.Omega.{arith}
 use lib.ListN.{length}
+use Rattle.layout.specs.Bytes.{pick}
 use Rattle.layout.specs.Limits.{leastShift, mostShift, mostBlocks}
 use Rattle.layout.specs.Header.{headLength, shiftOf, shapeOf}
 use Rattle.layout.specs.Sound.{rule1, rule2, rule3, rule4, rule5, rule6, rule7, rule8, broken}
 use Rattle.layout.specs.Ranges.{Small}
 use Rattle.laws.proofs.Tests.{is-both, is-leb, is-eqb}
-use Rattle.sound.specs.Lowest.{brokenIn}
+use Rattle.sound.specs.Lowest.{brokenIn, breaking, verdictIn, freeOf}
+use Rattle.layout.specs.Blocks.{chain}
 use Rattle.layout.specs.declared.Shape.{Shape}
+use Rattle.sound.specs.declared.check.Verdict.{Verdict}
 
 -- ---- rules 4 to 8
 
+picked-none : (b : Bool) (left n : ℕ) → left ≡ pick b (n + 1) 0 → left ≡ 0 → b ≡ false
+picked-none true left n g z = absurd (omega arith)
+picked-none false left n g z = refl
+
+picked-some : (b : Bool) (left n : ℕ) → left ≡ pick b (n + 1) 0 → (left ≡ 0 → ⊥) → (b ≡ true) × (left - 1 ≡ n)
+picked-some true left n g h = (refl, omega arith)
+picked-some false left n g h = absurd (h g)
+
 module _ (c : List ℕ) (s : Shape) where
-  pub breaks-4 : rule4 c s ≡ false → 4 ≡ brokenIn c s
+  pub breaks-4 : rule4 c s ≡ false → breaking 4 ≡ verdictIn c s
   unfolding brokenIn
   breaks-4 e = rw e
 
   module _ (a : rule4 c s ≡ true) where
-    pub breaks-5 : rule5 c s ≡ false → 5 ≡ brokenIn c s
+    pub breaks-5 : rule5 c s ≡ false → breaking 5 ≡ verdictIn c s
     unfolding brokenIn
     breaks-5 e = rw (a, e)
 
     module _ (b : rule5 c s ≡ true) where
-      pub breaks-6 : rule6 c s ≡ false → 6 ≡ brokenIn c s
+      pub breaks-6 : rule6 c s ≡ false → breaking 6 ≡ verdictIn c s
       unfolding brokenIn
       breaks-6 e = rw (a, b, e)
 
-      module _ (d : rule6 c s ≡ true) where
-        pub breaks-7 : rule7 c s ≡ false → 7 ≡ brokenIn c s
+      module _ (d : rule6 c s ≡ true) (left : ℕ) (g : left ≡ pick (rule7 c s) (length (chain c s) + 1) 0) where
+        pub breaks-7 : left ≡ 0 → breaking 7 ≡ verdictIn c s
         unfolding brokenIn
-        breaks-7 e = rw (a, b, d, e)
+        breaks-7 e = rw (a, b, d, picked-none (rule7 c s) left (length (chain c s)) g e)
 
-        module _ (f : rule7 c s ≡ true) where
-          pub breaks-8 : rule8 c s ≡ false → 8 ≡ brokenIn c s
+        module _ (h : left ≡ 0 → ⊥) where
+          pub breaks-8 : rule8 c s ≡ false → breaking 8 ≡ verdictIn c s
           unfolding brokenIn
-          breaks-8 e = rw (a, b, d, f, e)
+          breaks-8 e = rw (a, b, d, picked-some (rule7 c s) left (length (chain c s)) g h .0, e)
 
-          pub breaks-none : rule8 c s ≡ true → 0 ≡ brokenIn c s
+          pub breaks-none : rule8 c s ≡ true → record { rule = 0; free = left - 1 } ≡ verdictIn c s
           unfolding brokenIn
-          breaks-none e = rw (a, b, d, f, e)
+          breaks-none e = let p = picked-some (rule7 c s) left (length (chain c s)) g h in rw (a, b, d, p .0, p .1, e)
 
 -- ---- rules 1 to 3
 
-module _ (c : List ℕ) where
-  pub breaks-1 : rule1 c ≡ false → 1 ≡ broken c
-  unfolding broken
-  breaks-1 e = rw e
+-- what a verdict tells of any bytes
+abbrev Told : List ℕ → Verdict → Type 0
+Told c v = (v .rule ≡ broken c) × (v .free ≡ freeOf c)
+
+module _ (c : List ℕ) (v : Verdict) where
+  pub breaks-1 : rule1 c ≡ false → v ≡ breaking 1 → Told c v
+  unfolding broken freeOf
+  breaks-1 e g = rw (g, e) (refl, refl)
 
   module _ (a : rule1 c ≡ true) where
-    pub breaks-2 : rule2 c ≡ false → 2 ≡ broken c
-    unfolding broken
-    breaks-2 e = rw (a, e)
+    pub breaks-2 : rule2 c ≡ false → v ≡ breaking 2 → Told c v
+    unfolding broken freeOf
+    breaks-2 e g = rw (g, a, e) (refl, refl)
 
     module _ (b : rule2 c ≡ true) where
-      pub breaks-3 : rule3 c ≡ false → 3 ≡ broken c
-      unfolding broken
-      breaks-3 e = rw (a, b, e)
+      pub breaks-3 : rule3 c ≡ false → v ≡ breaking 3 → Told c v
+      unfolding broken freeOf
+      breaks-3 e g = rw (g, a, b, e) (refl, refl)
 
-      pub breaks-later : rule3 c ≡ true → (s : Shape) (r : ℕ) → s ≡ shapeOf c → r ≡ brokenIn c s → r ≡ broken c
-      unfolding broken brokenIn
-      breaks-later d s r e f = f ∙ rw (a, b, d, e)
+      pub breaks-later : rule3 c ≡ true → (s : Shape) → s ≡ shapeOf c → v ≡ verdictIn c s → Told c v
+      unfolding broken freeOf brokenIn
+      breaks-later d s e g = rw (g, a, b, d, e) (refl, refl)
 
 -- ---- small numbers
 

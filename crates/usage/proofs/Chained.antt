@@ -5,8 +5,7 @@ use mathlib.Core.List.{List, [], _∷_, _++_}
 use Prim.Native.Nat.{ℕ, zero, suc, _+_, _-_, _≤_, _<_}
 use native.Mathlib.Numerals.{sub-one}
 use native.Mathlib.Omega.{arith}
-use lib.ListN.{length, getD, set}
-use lib.Dec.{eqb}
+use lib.ListN.{length, getD, set, length-append}
 use borrow.Author.Tests.{eq-eqb, ne-eqb}
 use Rattle.layout.specs.Bytes.{end8, pick, separate}
 use Rattle.layout.specs.Marks.{fresh, fallingIn}
@@ -73,12 +72,25 @@ module _ (c : List ℕ) (s : Shape) (m m′ : List ℕ) (r : Bool) (inUse : InUs
   all-ok : r ≡ separate (s .count) all
   all-ok = all-marked .0 ∙ mark-separate (s .count) (inUse .start) (inUse .long) (inUse .zeros) all
 
-  pub left-over : r ≡ false → false ≡ rule7 c s
-  unfolding rule7
-  left-over f = rw (← all-ok, f)
+  -- one more than the free blocks, or that the rule is broken
+  abbrev answer : ℕ
+  answer = pick (rule7 c s) (length (chain c s) + 1) 0
 
-  pub none-over : (k : ℕ) → r ≡ true → k ≡ length (fallingIn (s .count) m′) → eqb k (s .count) ≡ rule7 c s
+  pub chain-apart : r ≡ false → 0 ≡ answer
   unfolding rule7
-  none-over k f e =
-      let a : k ≡ length all = e ∙ rw (all-marked .1) (mark-count (s .count) (inUse .start) (inUse .long) (inUse .zeros) all (sym (all-marked .0) ∙ f)) in
-      rw (← all-ok, f, a)
+  chain-apart f = rw (← all-ok, f)
+
+  module _ (k : ℕ) (f : r ≡ true) (e : k ≡ length (fallingIn (s .count) m′)) where
+    marked : k ≡ length all
+    marked = e ∙ rw (all-marked .1) (mark-count (s .count) (inUse .start) (inUse .long) (inUse .zeros) all (sym (all-marked .0) ∙ f))
+
+    pub some-over : (k ≡ s .count → ⊥) → 0 ≡ answer
+    unfolding rule7
+    some-over h = rw (← all-ok, f, ← marked, ne-eqb k (s .count) h)
+
+    pub none-over : (j : ℕ) → j ≡ length (fallingIn (s .count) m) → k ≡ s .count → s .count - j + 1 ≡ answer
+    unfolding rule7
+    none-over j g h =
+        let before : j ≡ length (used c s) = g ∙ rw (inUse .marks) (mark-count (s .count) (inUse .start) (inUse .long) (inUse .zeros) (used c s) (inUse .ok)) in
+        let free : s .count - j ≡ length (chain c s) = omega (arith, before, h, marked, length-append (used c s) (chain c s)) in
+        rw (← all-ok, f, ← marked, eq-eqb k (s .count) h, free)

@@ -5,8 +5,9 @@ use layout::Shape;
 use marking::marks::mark;
 use memory::bytes::byte;
 ghost use mathlib.Core.Path.{_≡_};
-ghost use Prim.Native.Nat.{_≤_};
+ghost use Prim.Native.Nat.{_+_, _≤_};
 ghost use lib.ListN.{length};
+ghost use Rattle.layout.specs.Bytes.{pick};
 ghost use Rattle.layout.specs.Marks.{markOk, markSet, fallingIn};
 ghost use Rattle.layout.specs.Blocks.{chain};
 ghost use Rattle.layout.specs.Sound.{rule7};
@@ -49,14 +50,19 @@ fn count_marks(marks: &[u8], n: usize) -> usize
     found
 }
 
-// Rule 7, on marks that hold the blocks in use: the chain's blocks are apart from them, and then no block is left over.
-pub fn rule7(card: &[u8], s: Shape, marks: &mut [u8]) -> bool
+// Rule 7, on marks that hold the blocks in use: the chain's blocks are apart from them, and then no block is left over. Gives one
+// more than the number of free blocks; 0 where the rule is broken.
+pub fn rule7(card: &[u8], s: Shape, marks: &mut [u8]) -> usize
     requires { ⌜ Small (now card) s × InUse (now card) s (now marks) ⌝ }
-    ensures { λ r. ⌜ r ≡ rule7 (now (card .entry)) s ⌝ }
+    ensures { λ r. ⌜ r ≡ pick (rule7 (now (card .entry)) s) (length (chain (now (card .entry)) s) + 1) 0 ⌝ }
 {
-    if !mark_chain(&*card, s, marks) {
-        return false;
-    }
     let count = s.count;
-    count_marks(&*marks, count) == count
+    let used = count_marks(&*marks, count);
+    if !mark_chain(&*card, s, marks) {
+        return 0;
+    }
+    if count_marks(&*marks, count) != count {
+        return 0;
+    }
+    count - used + 1
 }
