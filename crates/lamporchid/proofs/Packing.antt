@@ -13,7 +13,7 @@ use Rattle.layout.specs.Answers.{Outcome, refused}
 use Rattle.layout.specs.Words.{small, large, word, Packed}
 use Rattle.layout.specs.Calls.{Test, firstNo, unless}
 use Rattle.laws.proofs.Picks.{eqb-yes, eqb-no}
-use Rattle.store.proofs.Passing.{rule-low}
+use Rattle.front.proofs.Passing.{rule-low}
 
 -- ---- the word, and its parts out of it
 

@@ -7,9 +7,9 @@ mod dice;
 mod draws;
 mod kinds;
 mod making;
-mod names;
 mod rounds;
 mod situations;
+mod spelling;
 mod steps;
 mod sums;
 
