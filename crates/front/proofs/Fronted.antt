@@ -3,9 +3,11 @@ use mathlib.Core.Path.{_≡_, refl, sym, subst, _∙_}
 use mathlib.Core.Bool.{Bool, true, false}
 use mathlib.Core.List.{List, _∷_}
 use Prim.Native.Nat.{ℕ}
+use lib.ListN.{length}
 use lib.Dec.{eqb}
 use borrow.Author.Tests.{ne-eqb, eqb-true}
 use Rattle.layout.specs.Bytes.{pick}
+use Rattle.layout.specs.Blocks.{chain}
 use Rattle.layout.specs.Filing.{goodName, entriesOf}
 use Rattle.layout.specs.Header.{shapeOf}
 use Rattle.layout.specs.Sound.{broken}
@@ -13,6 +15,7 @@ use Rattle.layout.specs.Answers.{Outcome, refused, numberOf, ruleOf}
 use Rattle.layout.specs.Calls.{Test, unless, known, entryOf, indexOf, damaged, badName, notKnown, alreadyKnown}
 use Rattle.filing.specs.Located.{located}
 use Rattle.acts.proofs.Rooted.{found-is}
+use Rattle.sound.specs.Lowest.{freeOf}
 use Rattle.front.specs.Fronts.{examinedOf, soughtOf}
 use Rattle.front.proofs.Outcomes.{refuse-1, refuse-2, refuse-3, refuse-4, past-3}
 use Rattle.front.proofs.Passing.{Passed, Fresh, Named}
@@ -31,28 +34,31 @@ pub examined-damaged : (c : List ℕ) (rule : ℕ) → rule ≡ broken c → (ru
 unfolding examinedOf
 examined-damaged c rule e h = rw (← e, ne-eqb rule 0 h)
 
-pub examined-sound : (c : List ℕ) (rule : ℕ) → rule ≡ broken c → rule ≡ 0 → (s : Shape) → s ≡ shapeOf c → examined.Sound s ≡ examinedOf c
-unfolding examinedOf
-examined-sound c rule e z s f = rw (← e, z, f)
+pub examined-sound : (c : List ℕ) (rule : ℕ) → rule ≡ broken c → rule ≡ 0 → (s : Shape) → s ≡ shapeOf c → (n : ℕ) → n ≡ freeOf c → examined.Sound s n ≡ examinedOf c
+unfolding examinedOf freeOf
+examined-sound c rule e z s f n g = rw (f, g, ← e, z)
 
 -- what each case says of the card
 abbrev Examines : List ℕ → Examined → Type 0
 Examines c (examined.Damaged rule) = (rule ≡ broken c) × (eqb (broken c) 0 ≡ false)
-Examines c (examined.Sound s) = Passed c s
+Examines c (examined.Sound s n) = Passed c s × (n ≡ length (chain c s))
 
 examines : (c : List ℕ) → Examines c (examinedOf c)
 unfolding examinedOf
 examines c = by-test (eqb (broken c) 0) refl where
-  by-test : (b : Bool) → eqb (broken c) 0 ≡ b → Examines c (pick b (examined.Sound (shapeOf c)) (examined.Damaged (broken c)))
-  by-test true e = record { unbroken = eqb-true (broken c) 0 e; cut = refl }
+  by-test : (b : Bool) → eqb (broken c) 0 ≡ b → Examines c (pick b (examined.Sound (shapeOf c) (length (chain c (shapeOf c)))) (examined.Damaged (broken c)))
+  by-test true e = (record { unbroken = eqb-true (broken c) 0 e; cut = refl }, refl)
   by-test false e = (refl, e)
 
 module _ (c : List ℕ) {o : Examined} (e : o ≡ examinedOf c) where
   damaged-of : {rule : ℕ} → o ≡ examined.Damaged rule → (rule ≡ broken c) × (eqb (broken c) 0 ≡ false)
   damaged-of f = subst (λ (x : Examined). Examines c x) (sym e ∙ f) (examines c)
 
-  pub sound-of : {s : Shape} → o ≡ examined.Sound s → Passed c s
-  sound-of f = subst (λ (x : Examined). Examines c x) (sym e ∙ f) (examines c)
+  pub sound-of : {s : Shape} {n : ℕ} → o ≡ examined.Sound s n → Passed c s
+  sound-of f = subst (λ (x : Examined). Examines c x) (sym e ∙ f) (examines c) .0
+
+  pub free-of : {s : Shape} {n : ℕ} → o ≡ examined.Sound s n → n ≡ length (chain c s)
+  free-of f = subst (λ (x : Examined). Examines c x) (sym e ∙ f) (examines c) .1
 
   pub refused-damaged : {rule : ℕ} → o ≡ examined.Damaged rule → (t : List ℕ) (a : Outcome) (tests : List Test) → refused 1 rule c t ≡ unless (damaged c ∷ tests) c t a
   refused-damaged f t a tests = let d = damaged-of f in rw (d .0) (refuse-1 c t a tests (d .1))

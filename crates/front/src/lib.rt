@@ -8,10 +8,10 @@ use layout::answers::Refusal;
 ghost use mathlib.Core.Path.{_≡_};
 ghost use Rattle.front.specs.Fronts.{examinedOf, soughtOf};
 
-// Any bytes, checked: the lowest broken rule, or how the card is cut.
+// Any bytes, checked: the lowest broken rule, or how the card is cut and how many blocks are free.
 pub enum Examined {
     Damaged(u8),
-    Sound(Shape),
+    Sound(Shape, usize),
 }
 
 // A name, sought on any bytes: why it is not sought, that it is not known, or its stream's index and where its entry starts.
@@ -29,11 +29,12 @@ pub enum Sought {
 pub fn examine(card: &[u8]) -> Examined
     ensures { λ r. ⌜ r ≡ examinedOf (now (card .entry)) ⌝ }
 {
-    let rule = sound::check::check(card);
+    let v = sound::check::check(card);
+    let rule = v.rule;
     if rule != 0 {
         return Examined::Damaged(rule as u8);
     }
-    Examined::Sound(shape(card))
+    Examined::Sound(shape(card), v.free)
 }
 
 // The card checked, the name judged, and then sought in the root.
@@ -42,7 +43,7 @@ pub fn seek(card: &[u8], name: &[u8]) -> Sought
 {
     match examine(card) {
         Examined::Damaged(rule) => Sought::Refused(Refusal::Damaged(rule)),
-        Examined::Sound(s) => {
+        Examined::Sound(s, _) => {
             if !good_name(name) {
                 return Sought::Refused(Refusal::BadName);
             }

@@ -54,7 +54,7 @@ pub fn list(card: &[u8], k: usize, tray: &mut [u8]) -> Listed
 {
     match examine(card) {
         Examined::Damaged(rule) => Listed::Refused(Refusal::Damaged(rule)),
-        Examined::Sound(s) => {
+        Examined::Sound(s, _) => {
             if tray.len() < 64 {
                 if nth_entry(card, s, stream(card, s, 0), k).there {
                     return Listed::Refused(Refusal::ShortTray);

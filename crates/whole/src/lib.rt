@@ -70,7 +70,7 @@ pub fn check(card: &[u8]) -> Done
 {
     match examine(card) {
         Examined::Damaged(rule) => Done::Refused(Refusal::Damaged(rule)),
-        Examined::Sound(_) => Done::Done,
+        Examined::Sound(_, _) => Done::Done,
     }
 }
 
@@ -80,6 +80,6 @@ pub fn room(card: &[u8]) -> Counted
 {
     match examine(card) {
         Examined::Damaged(rule) => Counted::Refused(Refusal::Damaged(rule)),
-        Examined::Sound(s) => Counted::Count(holding::room::room(card, s)),
+        Examined::Sound(_, free) => Counted::Count(free),
     }
 }

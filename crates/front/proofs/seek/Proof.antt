@@ -1,8 +1,8 @@
 -- `front::seek` keeps its promise.
 use borrow.Author.Tests.{not-true, not-false}
-use borrow.Author.Needs.{needs}
 use Rattle.front.proofs.Passing.{small-of, root-low, name-fits}
 use Rattle.front.proofs.Fronted.{sound-of, sought-damaged, sought-bad, sought-unknown, sought-known}
+use borrow.Author.Needs.{needs}
 use Rattle.front.proofs.seek.Statement.{statement}
 use Rattle.front.proofs.seek.Tie as tie
 
