@@ -1,6 +1,6 @@
 -- The lowest broken rule, test by test; and a card that passes rule 3 has small numbers.
 use mathlib.Core.Path.{_≡_, refl}
-use mathlib.Core.Bool.{Bool, true, false}
+use mathlib.Core.Bool.{true, false}
 use mathlib.Core.List.{List}
 use Prim.Native.Nat.{ℕ, _+_, _-_, _*_, _/_, _%_, _^_, _≤_}
 use native.Mathlib.Nat.{div-add-mod', mul-le-mul, pow-le-pow-right}
@@ -12,20 +12,13 @@ use Rattle.layout.specs.Header.{headLength, shiftOf, shapeOf}
 use Rattle.layout.specs.Sound.{rule1, rule2, rule3, rule4, rule5, rule6, rule7, rule8, broken}
 use Rattle.layout.specs.Ranges.{Small}
 use Rattle.laws.proofs.Tests.{is-both, is-leb, is-eqb}
+use Rattle.usage.proofs.Chained.{picked-none, picked-some}
 use Rattle.sound.specs.Lowest.{brokenIn, breaking, verdictIn, freeOf}
 use Rattle.layout.specs.Blocks.{chain}
 use Rattle.layout.specs.declared.Shape.{Shape}
 use Rattle.sound.specs.declared.check.Verdict.{Verdict}
 
 -- ---- rules 4 to 8
-
-picked-none : (b : Bool) (left n : ℕ) → left ≡ pick b (n + 1) 0 → left ≡ 0 → b ≡ false
-picked-none true left n g z = absurd (omega arith)
-picked-none false left n g z = refl
-
-picked-some : (b : Bool) (left n : ℕ) → left ≡ pick b (n + 1) 0 → (left ≡ 0 → ⊥) → (b ≡ true) × (left - 1 ≡ n)
-picked-some true left n g h = (refl, omega arith)
-picked-some false left n g h = absurd (h g)
 
 module _ (c : List ℕ) (s : Shape) where
   pub breaks-4 : rule4 c s ≡ false → breaking 4 ≡ verdictIn c s
@@ -54,7 +47,10 @@ module _ (c : List ℕ) (s : Shape) where
 
           pub breaks-none : rule8 c s ≡ true → record { rule = 0; free = left - 1 } ≡ verdictIn c s
           unfolding brokenIn
-          breaks-none e = let p = picked-some (rule7 c s) left (length (chain c s)) g h in rw (a, b, d, p .0, p .1, e)
+          breaks-none e =
+              let p = picked-some (rule7 c s) left (length (chain c s)) g h in
+              let k : left - 1 ≡ length (chain c s) = omega (arith, p .1) in
+              rw (a, b, d, p .0, k, e)
 
 -- ---- rules 1 to 3
 

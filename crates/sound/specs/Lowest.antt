@@ -24,6 +24,6 @@ verdictIn c s = record { rule = brokenIn c s; free = counted c s (brokenIn c s) 
 abbrev pub breaking : ℕ → Verdict
 breaking rule = record { rule = rule; free = 0 }
 
--- L76: how many blocks of any bytes are free; 0 where a rule is broken
+-- L123: how many blocks of any bytes are free; 0 where a rule is broken
 unfoldable pub freeOf : List ℕ → ℕ
 freeOf c = counted c (shapeOf c) (broken c)

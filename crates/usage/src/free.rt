@@ -14,25 +14,25 @@ ghost use Rattle.layout.specs.Sound.{rule7};
 ghost use Rattle.layout.specs.Ranges.{Small};
 ghost use Rattle.usage.specs.Used.{InUse};
 
-// Marks the blocks of the free chain, or finds one that it can't mark.
-fn mark_chain(card: &[u8], s: Shape, marks: &mut [u8]) -> bool
+// Marks the blocks of the free chain and gives one more than their number; 0 where there is one that it can't mark.
+fn mark_chain(card: &[u8], s: Shape, marks: &mut [u8]) -> usize
     requires { ⌜ Small (now card) s ⌝ }
-    ensures { λ r. ⌜ (r ≡ markOk (s .count) (now (marks .entry)) (chain (now (card .entry)) s)) × (now (marks .exit) ≡ markSet (s .count) (now (marks .entry)) (chain (now (card .entry)) s)) ⌝ }
+    ensures { λ r. ⌜ (r ≡ pick (markOk (s .count) (now (marks .entry)) (chain (now (card .entry)) s)) (length (chain (now (card .entry)) s) + 1) 0) × (now (marks .exit) ≡ markSet (s .count) (now (marks .entry)) (chain (now (card .entry)) s)) ⌝ }
 {
     let count = s.count;
     let mut b = first_free(&*card, s);
     let mut left = count + 1;
     while 0 < left {
         if b == 0xffff_ffff_ffff_ffff {
-            return true;
+            return count + 2 - left;
         }
         if !mark(marks, count, b) {
-            return false;
+            return 0;
         }
         b = next(&*card, s, b);
         left -= 1;
     }
-    true
+    count + 2
 }
 
 // How many of the first `n` blocks are marked.
@@ -56,13 +56,13 @@ pub fn rule7(card: &[u8], s: Shape, marks: &mut [u8]) -> usize
     requires { ⌜ Small (now card) s × InUse (now card) s (now marks) ⌝ }
     ensures { λ r. ⌜ r ≡ pick (rule7 (now (card .entry)) s) (length (chain (now (card .entry)) s) + 1) 0 ⌝ }
 {
-    let count = s.count;
-    let used = count_marks(&*marks, count);
-    if !mark_chain(&*card, s, marks) {
+    let found = mark_chain(&*card, s, marks);
+    if found == 0 {
         return 0;
     }
+    let count = s.count;
     if count_marks(&*marks, count) != count {
         return 0;
     }
-    count - used + 1
+    found
 }

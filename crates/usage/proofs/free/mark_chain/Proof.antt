@@ -4,14 +4,12 @@ use borrow.Author.Tests.{not-true, not-false}
 use mathlib.Core.Path.{_≡_, refl}
 use native.Mathlib.Omega.{arith}
 use lib.ListN.{length}
-use Rattle.layout.specs.Blocks.{walk, next, chain}
-use Rattle.marking.proofs.Walking.{Rest}
-use Rattle.usage.proofs.Chained.{chain-begun, chain-ends, chain-out, chain-turn, chain-stops}
+use Rattle.usage.proofs.Chained.{Along, chain-begun, chain-ends, chain-out, chain-turn, chain-stops}
 use Rattle.usage.proofs.free.mark_chain.Statement.{statement}
 use Rattle.usage.proofs.free.mark_chain.Tie as tie
 
 abbrev Inv-loop : tie.InvT-loop
-Inv-loop card s marks₀ count b₀ left₀ marks b left = (length marks ≡ length marks₀) × Rest (s .count) marks (walk left (next card s) b) marks₀ (chain card s)
+Inv-loop card s marks₀ count b₀ left₀ marks b left = (length marks ≡ length marks₀) × Along card s left b marks marks₀
 
 abbrev μ-loop : tie.MeasureT-loop
 μ-loop card s marks₀ count b₀ left₀ marks b left = left
@@ -27,7 +25,13 @@ add-left c =
 loop-holds : tie.Need-loop-holds Inv-loop μ-loop
 loop-holds c =
     let at-first-free = c .first-free in
-    (refl, chain-begun _ _ _ _ (at-first-free .ensures))
+    (refl, chain-begun _ _ _ _ _ (at-first-free .ensures) refl)
+
+add-result : tie.Need-add-result Inv-loop μ-loop
+add-result c = search needs
+
+sub-result : tie.Need-sub-result Inv-loop μ-loop
+sub-result c = search needs
 
 same-length : tie.Need-same-length Inv-loop μ-loop
 same-length c = search needs
@@ -36,7 +40,7 @@ returns : tie.Need-returns Inv-loop μ-loop
 returns c =
     let at-loop = c .before .before .loop in
     let at-if1 = c .if1 in
-    chain-ends _ _ _ _ _ _ _ (at-loop .inv .1) (at-if1 .taken)
+    chain-ends _ _ _ _ _ _ (at-loop .inv .1) (at-if1 .taken) _ (omega (arith, at-loop .inv .1 .0))
 
 mark-requires : tie.Need-mark-requires Inv-loop μ-loop
 mark-requires c κs = search needs
@@ -51,7 +55,7 @@ returns-2 c =
     let at-if1 = c .before .before .before .before .before .if1 in
     let at-mark = c .before .before .before .mark in
     let at-if2 = c .if2 in
-    chain-stops _ _ _ _ _ _ _ (at-loop .inv .1) (at-loop-test .taken) (at-if1 .left) _ _ (at-mark .ensures .0) (at-mark .ensures .1) (not-true _ (at-if2 .taken))
+    chain-stops _ _ _ _ _ _ (at-loop .inv .1) (at-loop-test .taken) (at-if1 .left) _ _ (at-mark .ensures .0) (at-mark .ensures .1) (not-true _ (at-if2 .taken))
 
 next-requires : tie.Need-next-requires Inv-loop μ-loop
 next-requires c κs = search needs
@@ -70,7 +74,10 @@ loop-again c =
     let at-mark = c .before .before .before .before .mark in
     let at-next = c .next in
     let at-if2 = c .before .if2 in
-    (search needs, chain-turn _ _ _ _ _ _ _ (at-loop .inv .1) (at-loop-test .taken) (at-if1 .left) _ _ (at-mark .ensures .0) (at-mark .ensures .1) _ (at-next .ensures) (not-false _ (at-if2 .left)))
+    (search needs, chain-turn _ _ _ _ _ _ (at-loop .inv .1) (at-loop-test .taken) (at-if1 .left) _ _ (at-mark .ensures .0) (at-mark .ensures .1) _ (at-next .ensures) (not-false _ (at-if2 .left)))
+
+add-result-2 : tie.Need-add-result-2 Inv-loop μ-loop
+add-result-2 c = search needs
 
 same-length-3 : tie.Need-same-length-3 Inv-loop μ-loop
 same-length-3 c = search needs
@@ -79,7 +86,7 @@ returns-3 : tie.Need-returns-3 Inv-loop μ-loop
 returns-3 c =
     let at-loop = c .before .loop in
     let at-loop-test = c .loop-test in
-    chain-out _ _ _ _ _ _ _ (at-loop .inv .1) (at-loop-test .left)
+    chain-out _ _ _ _ _ _ (at-loop .inv .1) (at-loop-test .left)
 
 pub mark-chain-spec : {M : Type 1} → statement M
 mark-chain-spec =
@@ -90,6 +97,8 @@ mark-chain-spec =
     first-free-requires
     add-left
     loop-holds
+    add-result
+    sub-result
     same-length
     returns
     mark-requires
@@ -99,5 +108,6 @@ mark-chain-spec =
     sub-left
     loop-less
     loop-again
+    add-result-2
     same-length-3
     returns-3)
