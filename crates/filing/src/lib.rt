@@ -4,3 +4,4 @@ pub mod edits;
 pub mod entries;
 pub mod listing;
 pub mod names;
+pub mod pages;
