@@ -52,11 +52,11 @@ pub fn find(card: &[u8], s: Shape, t: Desc, name: &[u8]) -> Found
     let mut at = 0;
     let mut n = 0;
     while at < size {
-        from = turn(card, s, t, &mut page, from, at);
+        from = turn(&*card, s, t, &mut page, from, at);
         let o = at - from;
         let e = o + least(PIECE, size - at);
         let h = read_head(&page[o..e]);
-        if name_is(&page[o..e], name) {
+        if name_is(&page[o..e], &*name) {
             return Found {
                 number: n,
                 index: h.index,

@@ -33,7 +33,7 @@ pub fn nth_entry(card: &[u8], s: Shape, t: Desc, n: usize) -> Row
     let mut at = 0;
     let mut left = n;
     while at < size {
-        from = turn(card, s, t, &mut page, from, at);
+        from = turn(&*card, s, t, &mut page, from, at);
         let o = at - from;
         let e = o + least(PIECE, size - at);
         let h = read_head(&page[o..e]);

@@ -48,5 +48,5 @@ pub fn name_is(piece: &[u8], name: &[u8]) -> bool
     if m != name.len() {
         return false;
     }
-    matches(piece, 6, name)
+    matches(&*piece, 6, &*name)
 }

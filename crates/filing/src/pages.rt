@@ -41,7 +41,7 @@ pub fn name_at(card: &[u8], s: Shape, t: Desc, at: usize, name: &[u8]) -> bool
     ensures { λ r. ⌜ r ≡ same (entryAt (contents (now (card .entry)) s (t .top) (dataOf s t) (t .size)) at .name) (now (name .entry)) ⌝ }
 {
     let mut piece = [0; PIECE];
-    gather_stream(card, s, t, at, &mut piece, 0, PIECE);
+    gather_stream(&*card, s, t, at, &mut piece, 0, PIECE);
     let e = least(PIECE, minus(t.size, at));
-    name_is(&piece[0..e], name)
+    name_is(&piece[0..e], &*name)
 }
