@@ -46,14 +46,14 @@ module _ (r : List ℕ) where
   unfolding entriesFrom
   entries-stop at h = entries-bound (length r) 0 at (omega arith) (omega arith)
 
-  module _ (name : List ℕ) (at n i l : ℕ) (b : Bool) (inside : at < length r) (e : i ≡ num 4 r at) (f : l ≡ nameLength r at) (g : b ≡ same (take l (drop (at + 6) r)) name) where
+  module _ (name : List ℕ) (size at n i l : ℕ) (b : Bool) (long : size ≡ length r) (inside : at < size) (e : i ≡ num 4 r at) (f : l ≡ nameLength r at) (g : b ≡ same (entryAt r at .name) name) where
     pub find-here : b ≡ true → record { number = n; index = i; at = at; known = true } ≡ located (entriesFrom (length r) r at) name n
     unfolding located
-    find-here t = rw (entries-step at inside, ← f, ← g, t, e)
+    find-here t = rw (entries-step at (omega arith), ← g, t, e)
 
     pub find-next : b ≡ false → located (entriesFrom (length r) r (at + 6 + l)) name (n + 1) ≡ located (entriesFrom (length r) r at) name n
     unfolding located
-    find-next t = rw (entries-step at inside, ← f, ← g, t)
+    find-next t = rw (entries-step at (omega arith), ← g, t, f)
 
   pub find-none : (name : List ℕ) (at n m : ℕ) (f : Found) → located (entriesFrom (length r) r at) name n ≡ f → m ≡ length r → m ≤ at → record { number = n; index = 0; at = 0; known = false } ≡ f
   unfolding located
@@ -61,17 +61,17 @@ module _ (r : List ℕ) where
 
   -- ---- by number
 
-  module _ (at i l : ℕ) (inside : at < length r) (e : i ≡ num 4 r at) (f : l ≡ nameLength r at) where
-    pub nth-here : (n k m : ℕ) → n ≡ 0 → k ≡ length r - (at + 6) → m ≡ min l k → record { index = i; at = at; length = m; there = true } ≡ numbered (entriesFrom (length r) r at) n
+  module _ (size at i l : ℕ) (long : size ≡ length r) (inside : at < size) (e : i ≡ num 4 r at) (f : l ≡ nameLength r at) where
+    pub nth-here : (n k m : ℕ) → n ≡ 0 → k ≡ size - (at + 6) → m ≡ min l k → record { index = i; at = at; length = m; there = true } ≡ numbered (entriesFrom (length r) r at) n
     unfolding numbered
     nth-here n k m z u v =
         let w : m ≡ length (take (nameLength r at) (drop (at + 6) r)) = rw (length-take, length-drop, ← f) (omega arith) in
-        rw (entries-step at inside, z) (λ j. record { index = e j; at = at; length = w j; there = true })
+        rw (entries-step at (omega arith), z) (λ j. record { index = e j; at = at; length = w j; there = true })
 
     pub nth-next : (n : ℕ) → (n ≡ 0 → ⊥) → numbered (entriesFrom (length r) r (at + 6 + l)) (n - 1) ≡ numbered (entriesFrom (length r) r at) n
     unfolding numbered
     nth-next zero z = absurd (z refl)
-    nth-next (suc n) z = rw (entries-step at inside, sub-one (suc n), f)
+    nth-next (suc n) z = rw (entries-step at (omega arith), sub-one (suc n), f)
 
   pub nth-none : (at n m : ℕ) (f : Row) → numbered (entriesFrom (length r) r at) n ≡ f → m ≡ length r → m ≤ at → record { index = 0; at = 0; length = 0; there = false } ≡ f
   unfolding numbered

@@ -1,4 +1,5 @@
 pub mod Naming
+pub mod Paging
 pub mod Finding
 pub mod Editing
 pub mod Drawing

@@ -1,4 +1,4 @@
--- Names: a loop over their bytes, and bytes on a page compared with one.
+-- Names: a loop over their bytes, and an entry's bytes compared with one.
 use mathlib.Core.Path.{_≡_, refl, sym, ap, _∙_}
 use mathlib.Core.Logic.{_≢_}
 use mathlib.Core.Bool.{Bool, true, false, not}
@@ -6,18 +6,14 @@ use mathlib.Core.List.{List, [], _∷_}
 use Prim.Native.Nat.{ℕ, suc, _+_, _-_, min, _≤_, _<_}
 use native.Mathlib.Numerals.{add-one}
 use native.Mathlib.Omega.{arith}
-use lib.ListN.{length, getD, take, drop, replicate, length-take, length-drop, length-replicate, drop-of-length-le}
-use lib.Seq.{drop-cons}
+use lib.ListN.{length, getD, drop, length-take, length-drop, drop-of-length-le}
+use lib.Seq.{drop-cons, getD-take, getD-drop}
 use lib.Dec.{eqb}
 use borrow.Author.Tests.{ne-eqb}
 use Rattle.layout.specs.Limits.{slash, longestName}
-use Rattle.layout.specs.Bytes.{over, holds, same, matches, both}
-use Rattle.layout.specs.Filing.{goodName}
-use Rattle.layout.specs.Streams.{contents}
+use Rattle.layout.specs.Bytes.{holds, same, matches, both}
+use Rattle.layout.specs.Filing.{nameLength, entryAt, goodName}
 use Rattle.laws.proofs.Picks.{leb-yes, leb-no}
-use Rattle.laws.proofs.ByteLaws.{over-in}
-use Rattle.laws.proofs.Laying.{length-contents}
-use Rattle.layout.specs.declared.Shape.{Shape}
 
 -- ---- the slash
 
@@ -71,17 +67,17 @@ matches-same l (x ∷ xs) (y ∷ ys) at e h =
     let b : matches l (at + 1) ys ≡ same xs ys = matches-same l xs ys (at + 1) (omega arith) (λ k u. let z : at + 1 + k ≡ at + suc k = omega arith in rw z (h (suc k) (omega arith))) in
     rw (a, b)
 
-module _ (c : List ℕ) (s : Shape) (top d size at n m k : ℕ) (name : List ℕ) (e : m ≡ min n k) (f : k ≡ size - at) where
+module _ (l name : List ℕ) (n m k : ℕ) (e : n ≡ nameLength l 0) (f : m ≡ min n k) (g : k ≡ length l - 6) where
   abbrev part : List ℕ
-  part = take n (drop at (contents c s top d size))
+  part = entryAt l 0 .name
 
   long : length part ≡ m
-  long = rw (length-take, length-drop, length-contents c s top d size) (omega arith)
+  long = rw (length-take, length-drop) (omega arith)
 
   pub name-other : m ≢ length name → false ≡ same part name
   name-other h = same-length part name (λ u. h (sym long ∙ u))
 
-  pub name-compared : (page : List ℕ) (r : Bool) → m ≡ length name → length name ≤ 64 → page ≡ over (replicate 64 0) 0 part → r ≡ matches page 0 name → r ≡ same part name
-  name-compared page r h l g u =
-      u ∙ rw g (matches-same (over (replicate 64 0) 0 part) part name 0 (long ∙ h)
-      (λ i a. over-in (replicate 64 0) 0 part (0 + i) i refl a (rw length-replicate (omega (arith, long)))))
+  pub name-compared : (r : Bool) → m ≡ length name → r ≡ matches l 6 name → r ≡ same part name
+  name-compared r h u =
+      u ∙ matches-same l part name 6 (long ∙ h)
+      (λ i a. sym (getD-take (nameLength l 0) (drop 6 l) i 0 (omega (arith, long)) ∙ getD-drop 6 l i 0))

@@ -1,9 +1,12 @@
-// Entries: one read where it stands, and the search for a name.
+// Entries: the head of one, and the search for a name.
 use crate::names::name_is;
-use laying::gather::gather_stream;
+use crate::pages::PAGE;
+use crate::pages::PIECE;
+use crate::pages::turn;
 use layout::Desc;
 use layout::Shape;
 use memory::bytes::number;
+use memory::numbers::least;
 use stream::descs::stream;
 ghost use mathlib.Core.Path.{_≡_};
 ghost use Prim.Native.Nat.{_+_, _^_, _<_, _≤_};
@@ -28,16 +31,13 @@ pub struct Found {
     pub known: bool,
 }
 
-// The head of the entry at `at` in the directory that `t` describes.
-pub fn read_head(card: &[u8], s: Shape, t: Desc, at: usize) -> Head
-    requires { ⌜ Small (now card) s ⌝ }
-    ensures { λ r. ⌜ (r .index ≡ num 4 (contents (now (card .entry)) s (t .top) (dataOf s t) (t .size)) at) × (r .length ≡ nameLength (contents (now (card .entry)) s (t .top) (dataOf s t) (t .size)) at) × (r .length < 256 ^ 2) ⌝ }
+// The head of the entry that `piece` starts with.
+pub fn read_head(piece: &[u8]) -> Head
+    ensures { λ r. ⌜ (r .index ≡ num 4 (now (piece .entry)) 0) × (r .length ≡ nameLength (now (piece .entry)) 0) × (r .length < 256 ^ 2) ⌝ }
 {
-    let mut page = [0; 6];
-    gather_stream(card, s, t, at, &mut page, 0, 6);
     Head {
-        index: number(&page, 0, 4),
-        length: number(&page, 4, 2),
+        index: number(&*piece, 0, 4),
+        length: number(&*piece, 4, 2),
     }
 }
 
@@ -47,11 +47,16 @@ pub fn find(card: &[u8], s: Shape, t: Desc, name: &[u8]) -> Found
     ensures { λ r. ⌜ r ≡ located (entries (contents (now (card .entry)) s (t .top) (dataOf s t) (t .size))) (now (name .entry)) 0 ⌝ }
 {
     let size = t.size;
+    let mut page = [0; PAGE];
+    let mut from = size;
     let mut at = 0;
     let mut n = 0;
     while at < size {
-        let h = read_head(card, s, t, at);
-        if name_is(card, s, t, at + 6, h.length, name) {
+        from = turn(&*card, s, t, &mut page, from, at);
+        let o = at - from;
+        let e = o + least(PIECE, size - at);
+        let h = read_head(&page[o..e]);
+        if name_is(&page[o..e], &*name) {
             return Found {
                 number: n,
                 index: h.index,

@@ -1,6 +1,7 @@
-// Directories: names and entries, read where they stand in a stream; entries appended and removed.
+// Directories: names and entries, read page by page from a stream; entries appended and removed.
 
 pub mod edits;
 pub mod entries;
 pub mod listing;
 pub mod names;
+pub mod pages;

@@ -1,5 +1,8 @@
 // An entry by its number.
 use crate::entries::read_head;
+use crate::pages::PAGE;
+use crate::pages::PIECE;
+use crate::pages::turn;
 use layout::Desc;
 use layout::Shape;
 use memory::numbers::least;
@@ -25,10 +28,15 @@ pub fn nth_entry(card: &[u8], s: Shape, t: Desc, n: usize) -> Row
     ensures { λ r. ⌜ (r ≡ numbered (entries (contents (now (card .entry)) s (t .top) (dataOf s t) (t .size))) n) × (r .at ≤ t .size) ⌝ }
 {
     let size = t.size;
+    let mut page = [0; PAGE];
+    let mut from = size;
     let mut at = 0;
     let mut left = n;
     while at < size {
-        let h = read_head(card, s, t, at);
+        from = turn(&*card, s, t, &mut page, from, at);
+        let o = at - from;
+        let e = o + least(PIECE, size - at);
+        let h = read_head(&page[o..e]);
         if left == 0 {
             return Row {
                 index: h.index,

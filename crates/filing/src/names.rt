@@ -1,20 +1,16 @@
-// Names: what a good one is, and whether a name stands in a stream.
-use laying::gather::gather_stream;
-use layout::Desc;
-use layout::Shape;
+// Names: what a good one is, and whether an entry has a name.
 use layout::limits::longest_name;
 use layout::limits::slash;
+use memory::bytes::number;
 use memory::numbers::least;
 use memory::numbers::minus;
 use memory::runs::matches;
 ghost use mathlib.Core.Path.{_≡_};
-ghost use Prim.Native.Nat.{_<_, _≤_};
-ghost use lib.ListN.{length, take, drop};
+ghost use Prim.Native.Nat.{_≤_};
+ghost use lib.ListN.{length};
 ghost use Rattle.layout.specs.Limits.{slash};
 ghost use Rattle.layout.specs.Bytes.{holds, same};
-ghost use Rattle.layout.specs.Streams.{dataOf, contents};
-ghost use Rattle.layout.specs.Filing.{goodName};
-ghost use Rattle.layout.specs.Ranges.{Small};
+ghost use Rattle.layout.specs.Filing.{entryAt, goodName};
 
 // Whether a slash stands in the name.
 fn has_slash(name: &[u8]) -> bool
@@ -43,16 +39,14 @@ pub fn good_name(name: &[u8]) -> bool
     !has_slash(name)
 }
 
-// Whether the `n` bytes from `at` on of the stream that `t` describes, as far as they go, are the name.
-pub fn name_is(card: &[u8], s: Shape, t: Desc, at: usize, n: usize, name: &[u8]) -> bool
-    requires { ⌜ Small (now card) s × (length (now name) ≤ 64) ⌝ }
-    ensures { λ r. ⌜ r ≡ same (take n (drop at (contents (now (card .entry)) s (t .top) (dataOf s t) (t .size)))) (now (name .entry)) ⌝ }
+// Whether the entry that `piece` starts with has that name, as far as it goes.
+pub fn name_is(piece: &[u8], name: &[u8]) -> bool
+    requires { ⌜ length (now name) ≤ 64 ⌝ }
+    ensures { λ r. ⌜ r ≡ same (entryAt (now (piece .entry)) 0 .name) (now (name .entry)) ⌝ }
 {
-    let m = least(n, minus(t.size, at));
+    let m = least(number(&*piece, 4, 2), minus(piece.len(), 6));
     if m != name.len() {
         return false;
     }
-    let mut page = [0; 64];
-    gather_stream(card, s, t, at, &mut page, 0, n);
-    matches(&page, 0, name)
+    matches(&*piece, 6, &*name)
 }

@@ -7,7 +7,7 @@ use Prim.Native.Nat.{ℕ, zero, suc, _+_, _-_, _*_, _%_, _≤_, _<_}
 use native.Mathlib.Numerals.{add-one}
 use native.Mathlib.Decide.{ℕ-discrete}
 use native.Mathlib.Omega.{arith}
-use lib.ListN.{length, getD, take, drop, drop-of-length-le}
+use lib.ListN.{length, getD, drop, drop-of-length-le}
 use lib.Seq.{drop-cons}
 use lib.Dec.{leb, eqb, T}
 use borrow.Author.Tests.{eq-eqb, ne-eqb}
@@ -108,14 +108,13 @@ module _ (r : List ℕ) where
       go false (suc j) h f = f j (omega arith)
 
   -- its name, as it is read there
-  own-name : (links : List ℕ) (x j at n : ℕ) → j < x → x ≤ length (entries r) → Linked (entries r) x links → at ≡ num 4 links (8 * j) → n ≡ nameLength r at
-      → take n (drop (at + 6) r) ≡ nameAt (entries r) j
+  own-name : (links : List ℕ) (x j at : ℕ) → j < x → x ≤ length (entries r) → Linked (entries r) x links → at ≡ num 4 links (8 * j) → entryAt r at .name ≡ nameAt (entries r) j
   unfolding entries
-  own-name links x j at n h l linked e f =
+  own-name links x j at h l linked e =
       let a : at ≡ getD (entries r) j nothing .at = e ∙ linked j h .0 in
       let b = own-place (length r) 0 j (omega arith) in
-      rw (f, a) (ap (λ (x : Entry). x .name) (sym b))
+      rw a (ap (λ (x : Entry). x .name) (sym b))
 
-  pub met-same : (links name : List ℕ) (x left at n : ℕ) (q : Bool) → 0 < left → left ≤ x → x ≤ length (entries r) → Linked (entries r) x links → at ≡ num 4 links (8 * (left - 1)) → n ≡ nameLength r at
-      → q ≡ same (take n (drop (at + 6) r)) name → q ≡ same (nameAt (entries r) (left - 1)) name
-  met-same links name x left at n q more low l linked e f g = g ∙ ap (λ (v : List ℕ). same v name) (own-name links x (left - 1) at n (omega arith) l linked e f)
+  pub met-same : (links name : List ℕ) (x left at : ℕ) (q : Bool) → 0 < left → left ≤ x → x ≤ length (entries r) → Linked (entries r) x links → at ≡ num 4 links (8 * (left - 1))
+      → q ≡ same (entryAt r at .name) name → q ≡ same (nameAt (entries r) (left - 1)) name
+  met-same links name x left at q more low l linked e g = g ∙ ap (λ (v : List ℕ). same v name) (own-name links x (left - 1) at (omega arith) l linked e)

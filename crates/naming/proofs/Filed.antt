@@ -1,75 +1,41 @@
 -- An entry filed in its bucket: what is read of it, and what the pages then say.
-use mathlib.Core.Path.{_≡_, refl, sym, ap, _∙_}
+use mathlib.Core.Path.{_≡_, sym, ap, _∙_}
 use mathlib.Core.Logic.{_≢_}
 use mathlib.Core.Bool.{Bool, true, false}
 use mathlib.Core.List.{List}
-use Prim.Native.Nat.{ℕ, zero, suc, _+_, _-_, _*_, min, _≤_, _<_}
-use native.Mathlib.Nat.{add-zero}
+use Prim.Native.Nat.{ℕ, _+_, _-_, _*_, _≤_, _<_}
 use native.Mathlib.Numerals.{add-one}
 use native.Mathlib.Decide.{ℕ-discrete, decLt}
 use native.Mathlib.Omega.{arith}
-use lib.ListN.{length, getD, take, drop, replicate, length-take, length-replicate}
+use lib.ListN.{length, getD, take, drop, length-take}
 use borrow.Author.Tests.{eq-eqb, ne-eqb}
-use Rattle.layout.specs.Bytes.{pick, num, put, over, window}
+use Rattle.layout.specs.Bytes.{pick, num, put}
 use Rattle.layout.specs.Filing.{Entry, nameLength, entries, nothing}
-use Rattle.laws.proofs.ByteLaws.{num-put, num-put-same, length-put, length-over}
-use Rattle.laws.proofs.Windows.{window-inside}
-use Rattle.stream.proofs.Fields.{page-byte, page-num}
+use Rattle.laws.proofs.ByteLaws.{num-put, num-put-same, length-put}
+use Rattle.filing.specs.Paged.{pieceAt}
+use Rattle.filing.proofs.Paging.{length-piece, piece-length, piece-name}
 use Rattle.naming.specs.Buckets.{bucketOf, nameAt, among, lastIn, Linked, Filed}
 use Rattle.naming.specs.Rooted.{Here}
 use Rattle.naming.proofs.Buckets.{last-le, last-own, among-last}
 
--- ---- what is read
-
-window-agree : (n : ℕ) (l l′ : List ℕ) (p q : ℕ) → ((i : ℕ) → i < n → getD l (p + i) 0 ≡ getD l′ (q + i) 0) → window l p n ≡ window l′ q n
-unfolding window
-window-agree zero l l′ p q h = refl
-window-agree (suc n) l l′ p q h =
-    let a : getD l p 0 ≡ getD l′ q 0 = rw (add-zero p, add-zero q) at (h 0 (omega arith)) in
-    let b = window-agree n l l′ (p + 1) (q + 1) (λ i k. let u : p + 1 + i ≡ p + suc i = omega arith in let v : q + 1 + i ≡ q + suc i = omega arith in rw (u, v) (h (suc i) (omega arith))) in
-    rw (a, b)
-
--- an entry on a page: its name's length, and its name
-module _ (r page : List ℕ) (at : ℕ) (e : page ≡ over (replicate 70 0) 0 (take 70 (drop at r))) where
-  pub page-long : length page ≡ 70
-  page-long = rw (e, length-over) (length-replicate {A = ℕ} 70 0)
-
-  pub page-length : (n : ℕ) → n ≡ num 2 page 4 → n ≡ nameLength r at
-  page-length n f = f ∙ page-num 70 r page at 4 2 (omega arith) e
-
-  pub page-index : (k : ℕ) → k ≡ num 4 page 0 → k ≡ num 4 r at
-  page-index k f = f ∙ (let z : at + 0 ≡ at = add-zero at in rw z at (page-num 70 r page at 0 4 (omega arith) e))
-
-  pub page-name : (n : ℕ) → n ≤ 64 → at + 6 + n ≤ length r → take n (drop 6 page) ≡ take n (drop (at + 6) r)
-  page-name n h k =
-      sym (window-inside page 6 n (omega (arith, page-long)))
-      ∙ window-agree n page r 6 (at + 6) (λ i l. let a : at + 6 + i ≡ at + (6 + i) = omega arith in rw (a, e) (page-byte 70 r at (6 + i) (omega arith)))
-      ∙ window-inside r (at + 6) n (omega arith)
-
--- ---- what is filed
-
-module _ (r : List ℕ) (at i : ℕ) (here : Here r at i) (heads links : List ℕ) (filed : Filed (entries r) i heads links) (page : List ℕ) (e : page ≡ over (replicate 70 0) 0 (take 70 (drop at r)))
-    (n m : ℕ) (f : n ≡ num 2 page 4) (f′ : m ≡ min n 64) where
+module _ (r : List ℕ) (at i : ℕ) (here : Here r at i) (heads links : List ℕ) (filed : Filed (entries r) i heads links) (piece : List ℕ) (e : piece ≡ pieceAt r at) (n : ℕ) (f : n ≡ num 2 piece 4) where
   abbrev es : List Entry
   es = entries r
 
   n-is : n ≡ nameLength r at
-  n-is = page-length r page at e n f
+  n-is = piece-length r at piece e n f
 
-  m-is : 6 + m - 6 ≡ n
-  m-is = omega (arith, n-is, here .short)
+  pub entry-fits : 6 + n ≤ length piece
+  entry-fits = omega (arith, ap length e, length-piece r at, n-is, here .short, here .whole)
 
-  pub entry-fits : 6 + m ≤ length page
-  entry-fits = omega (arith, page-long r page at e)
-
-  module _ (name : List ℕ) (g : name ≡ take (6 + m - 6) (drop 6 page)) where
+  module _ (name : List ℕ) (g : name ≡ take (6 + n - 6) (drop 6 piece)) where
     pub name-is : name ≡ nameAt es i
     name-is =
-        let a : nameAt es i ≡ take n (drop (at + 6) r) = ap (λ (x : Entry). x .name) (here .entry) ∙ rw n-is in
-        g ∙ rw (m-is, a) (page-name r page at e n (omega (arith, n-is, here .short)) (omega (arith, n-is, here .whole)))
+        let z : 6 + n - 6 ≡ nameLength piece 0 = omega (arith, f) in
+        g ∙ rw z (piece-name r at piece e (omega (arith, here .short)) ∙ ap (λ (x : Entry). x .name) (sym (here .entry)))
 
     pub name-short : length name ≤ 64
-    name-short = omega (arith, ap length g, length-take (6 + m - 6) (drop 6 page))
+    name-short = omega (arith, ap length g, length-take (6 + n - 6) (drop 6 piece), n-is, here .short)
 
     module _ (h x : ℕ) (b : h ≡ bucketOf name) (low : h < 1024) (d : x ≡ num 4 heads (4 * h)) where
       x-is : x ≡ lastIn es h i

@@ -2,78 +2,98 @@
 use mathlib.Core.Path.{_≡_, refl, sym, ap, _∙_}
 use mathlib.Core.Bool.{Bool, true, false}
 use mathlib.Core.List.{List, [], _∷_, map}
-use Prim.Native.Nat.{ℕ, _+_, _-_, _*_, _%_, _^_, _≤_, _<_}
+use Prim.Native.Nat.{ℕ, _+_, _-_, _*_, _%_, _^_, min, _≤_, _<_}
 use native.Mathlib.Nat.{div-add-mod', mod-lt, mul-le-mul}
+use native.Mathlib.Decide.{decLe}
 use native.Mathlib.Omega.{arith}
 use lib.ListN.{length, take, drop, set, replicate, length-map}
-use lib.Dec.{eqb, T}
+use lib.Dec.{leb, eqb, T}
 use Rattle.layout.specs.Limits.{mostStreams}
 use Rattle.layout.specs.Bytes.{pick, both, num, over, run, those, allB}
 use Rattle.layout.specs.Pyramid.{up}
 use Rattle.layout.specs.Marks.{fresh, markOk, markSet}
 use Rattle.layout.specs.Streams.{dataOf, descIn, descOf, live, lives, frees, descChain, slots, stream, streamBytes, tableBytes}
-use Rattle.layout.specs.Filing.{Entry, nameLength, entriesFrom, entries, entriesOf, goodName, reads, readsFrom, distinctNames, goodDirectory}
+use Rattle.layout.specs.Filing.{Entry, nameLength, entryAt, entriesFrom, entries, entriesOf, goodName, reads, readsFrom, distinctNames, goodDirectory}
 use Rattle.layout.specs.Sound.{rightDesc, liveForm, freeForm, goodForm, sameSet, reached, rule4, rule5, rule8}
 use Rattle.layout.specs.Ranges.{Small}
-use Rattle.laws.proofs.Picks.{leb-yes}
+use Rattle.laws.proofs.Picks.{leb-yes, leb-no}
 use Rattle.laws.proofs.Laying.{length-contents}
 use Rattle.laws.proofs.Lists.{in-run, length-run}
 use Rattle.laws.proofs.Sets.{distinct-le}
 use Rattle.laws.proofs.Tests.{is-both, is-eqb, is-leb, is-itself, is-all, is-separate}
 use Rattle.laws.proofs.Marking.{mark-separate}
+use Rattle.filing.specs.Paged.{pieceSize, pieceAt}
 use Rattle.filing.proofs.Finding.{entries-step, entries-stop}
+use Rattle.filing.proofs.Paging.{length-piece, piece-index, piece-length, piece-name}
 use Rattle.marking.proofs.Walking.{cleared}
 use Rattle.tables.specs.Compared.{rightMark, asked}
 use Rattle.tables.specs.OnPage.{Reads}
 use Rattle.naming.specs.Rooted.{bytesOf, goodAt, named, tidyFrom, indices, Tidy}
 use Rattle.tables.proofs.Compared.{compared}
-use Rattle.naming.proofs.Filed.{page-length, page-name}
 use Rattle.naming.proofs.Rooted.{parts, name-long, tidy-step, tidy-stop}
 use Rattle.tables.proofs.Paged.{slots-few, desc-same, live-same}
 use Rattle.layout.specs.declared.Shape.{Shape}
 use Rattle.layout.specs.declared.Desc.{Desc}
 
-yes : (b : Bool) → T b → b ≡ true
-yes true t = refl
-yes false t = absurd t
+untrue : (b : Bool) → (T b → ⊥) → b ≡ false
+untrue true f = absurd (f tt)
+untrue false f = refl
 
-no : (b : Bool) → (T b → ⊥) → b ≡ false
-no true f = absurd (f tt)
-no false f = refl
+-- ---- the entry in front of a piece
 
--- ---- one entry on its page
+module _ (p : List ℕ) (len : ℕ) (f : len ≡ nameLength p 0) (x : Bool) where
+  pub entry-cut : length p < 6 + len → 0 ≡ pick (both (goodAt p 0) x) (nameLength p 0) 0
+  entry-cut h = rw (leb-no {a = 6 + nameLength p 0} {b = length p} (omega arith))
 
-module _ (r page : List ℕ) (at size len left : ℕ) (long : size ≡ length r) (e : page ≡ over (replicate 70 0) 0 (take 70 (drop at r))) (f : len ≡ num 2 page 4) (x : Bool) where
-  len-is : len ≡ nameLength r at
-  len-is = page-length r page at e len f
-
-  pub entry-long : 64 < len → 0 ≡ pick (both (goodAt r at) x) (nameLength r at) 0
-  entry-long h = rw (no (goodAt r at) (λ t. omega (arith, parts r at t .2, name-long r at t, len-is)))
-
-  pub entry-cut : left ≡ size - at → left < 6 + len → 0 ≡ pick (both (goodAt r at) x) (nameLength r at) 0
-  entry-cut g h = rw (no (goodAt r at) (λ t. omega (arith, parts r at t .0, len-is)))
-
-  module _ (h : len ≤ 64) (g : left ≡ size - at) (k : 6 + len ≤ left) (q : Bool) (a : q ≡ goodName (take (6 + len - 6) (drop 6 page))) where
-    good-is : q ≡ goodAt r at
+  module _ (k : 6 + len ≤ length p) (q : Bool) (a : q ≡ goodName (take (6 + len - 6) (drop 6 p))) where
+    good-is : q ≡ goodAt p 0
     good-is =
-        let z : 6 + len - 6 ≡ len = omega arith in
-        let n : take (6 + len - 6) (drop 6 page) ≡ take (nameLength r at) (drop (at + 6) r) = rw (z, ← len-is) (page-name r page at e len h (omega arith)) in
-        a ∙ rw (n, leb-yes {a = at + 6 + nameLength r at} {b = length r} (omega (arith, len-is)))
+        let z : 6 + len - 6 ≡ nameLength p 0 = omega arith in
+        a ∙ rw (z, leb-yes {a = 6 + nameLength p 0} {b = length p} (omega arith))
 
-    pub entry-bad : q ≡ false → 0 ≡ pick (both (goodAt r at) x) (nameLength r at) 0
+    pub entry-bad : q ≡ false → 0 ≡ pick (both (goodAt p 0) x) (nameLength p 0) 0
     entry-bad z = rw (← good-is, z)
 
-    pub entry-met : q ≡ true → x ≡ false → 0 ≡ pick (both (goodAt r at) x) (nameLength r at) 0
+    pub entry-met : q ≡ true → x ≡ false → 0 ≡ pick (both (goodAt p 0) x) (nameLength p 0) 0
     entry-met z y = rw (← good-is, z, y)
 
-    pub entry-done : q ≡ true → x ≡ true → len ≡ pick (both (goodAt r at) x) (nameLength r at) 0
-    entry-done z y = rw (← good-is, z, y) len-is
+    pub entry-done : q ≡ true → x ≡ true → len ≡ pick (both (goodAt p 0) x) (nameLength p 0) 0
+    entry-done z y = rw (← good-is, z, y) f
 
 pub fresh-at : (n : ℕ) (m : List ℕ) (b b′ : ℕ) → b ≡ b′ → (x : Bool) {y : Bool} → x ≡ fresh n m b → x ≡ y → fresh n m b′ ≡ y
 fresh-at n m b b′ f x e t = rw (← f, ← e) t
 
 pub mark-then : (n : ℕ) (m m′ : List ℕ) (b b′ : ℕ) (x : Bool) → x ≡ fresh n m b → x ≡ true → b ≡ b′ → m′ ≡ pick (fresh n m b) (set m b 1) m → m′ ≡ set m b′ 1
 mark-then n m m′ b b′ x e t f g = g ∙ rw (← e, t, f)
+
+-- what is found of the entry in front of a piece holds of the directory
+module _ (r : List ℕ) (at : ℕ) (p : List ℕ) (e : p ≡ pieceAt r at) (inside : at ≤ length r) where
+  i-is : num 4 p 0 ≡ num 4 r at
+  i-is = piece-index r at p e (num 4 p 0) refl
+
+  n-is : nameLength p 0 ≡ nameLength r at
+  n-is = piece-length r at p e (nameLength p 0) refl
+
+  p-long : length p ≡ min pieceSize (length r - at)
+  p-long = ap length e ∙ length-piece r at
+
+  whole-is : nameLength r at ≤ 65 → leb (6 + nameLength p 0) (length p) ≡ leb (at + 6 + nameLength r at) (length r)
+  whole-is h = elim (decLe (at + 6 + nameLength r at) (length r)) [
+    | yes l ↦ leb-yes {a = 6 + nameLength p 0} {b = length p} (omega (arith, n-is, p-long)) ∙ sym (leb-yes l)
+    | no l ↦ leb-no {a = 6 + nameLength p 0} {b = length p} (omega (arith, n-is, p-long)) ∙ sym (leb-no {a = at + 6 + nameLength r at} {b = length r} (omega arith))
+  ]
+
+  good-same : goodAt p 0 ≡ goodAt r at
+  good-same = elim (decLe (nameLength r at) 65) [
+    | yes h ↦ ap (λ (b : Bool). both b (goodName (entryAt p 0 .name))) (whole-is h) ∙ ap (λ (v : List ℕ). both (leb (at + 6 + nameLength r at) (length r)) (goodName v)) (piece-name r at p e h)
+    | no h ↦ untrue (goodAt p 0) (λ t. omega (arith, parts p 0 t .0, n-is, p-long)) ∙ sym (untrue (goodAt r at) (λ t. omega (arith, parts r at t .2, name-long r at t)))
+  ]
+
+  pub entry-same : (n : ℕ) (m : List ℕ) (len : ℕ) → len ≡ pick (both (goodAt p 0) (fresh n m (num 4 p 0))) (nameLength p 0) 0 → len ≡ pick (both (goodAt r at) (fresh n m (num 4 r at))) (nameLength r at) 0
+  entry-same n m len f = f ∙ (λ j. pick (both (good-same j) (fresh n m (i-is j))) (n-is j) 0)
+
+  pub entry-marked : (m m′ : List ℕ) → m′ ≡ set m (num 4 p 0) 1 → m′ ≡ set m (num 4 r at) 1
+  entry-marked m m′ f = f ∙ ap (λ (k : ℕ). set m k 1) i-is
 
 -- ---- one after the other
 

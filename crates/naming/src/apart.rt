@@ -1,7 +1,8 @@
 // Whether a directory's names differ: in buckets, so that a name is compared only with the earlier ones of its own.
-use filing::entries::read_head;
-use filing::names::name_is;
-use laying::gather::gather_stream;
+use filing::pages::PAGE;
+use filing::pages::PIECE;
+use filing::pages::name_at;
+use filing::pages::turn;
 use layout::Desc;
 use layout::Shape;
 use memory::bytes::number;
@@ -15,6 +16,7 @@ ghost use lib.ListN.{length};
 ghost use Rattle.layout.specs.Bytes.{pick};
 ghost use Rattle.layout.specs.Filing.{nameLength, entries, distinctNames};
 ghost use Rattle.layout.specs.Ranges.{Small};
+ghost use Rattle.filing.specs.Paged.{pieceAt};
 ghost use Rattle.naming.specs.Buckets.{bucketOf, nameAt, among, Linked, Filed};
 ghost use Rattle.naming.specs.Rooted.{bytesOf, Tidy, Here};
 
@@ -40,8 +42,7 @@ fn met(card: &[u8], s: Shape, t: Desc, links: &[u8], x: usize, name: &[u8]) -> b
     while 0 < left {
         let j = left - 1;
         let at = number(&*links, 8 * j, 4);
-        let n = read_head(&*card, s, t, at).length;
-        if name_is(&*card, s, t, at + 6, n, &*name) {
+        if name_at(&*card, s, t, at, &*name) {
             return true;
         }
         left = number(&*links, 8 * j + 4, 4);
@@ -49,26 +50,26 @@ fn met(card: &[u8], s: Shape, t: Desc, links: &[u8], x: usize, name: &[u8]) -> b
     false
 }
 
-// Files entry `i`, which is at `at`, in its bucket and gives its name's length; 0 where an earlier entry has its name.
+// Files entry `i`, which is at `at` and in front of `piece`, in its bucket and gives its name's length; 0 where an earlier
+// entry has its name.
 fn file_entry(
     card: &[u8],
     s: Shape,
     t: Desc,
+    piece: &[u8],
     at: usize,
     i: usize,
     heads: &mut [u8],
     links: &mut [u8],
 ) -> usize
-    requires { ⌜ Small (now card) s × Here (bytesOf (now card) s t) at i × Filed (entries (bytesOf (now card) s t)) i (now heads) (now links) ⌝ }
+    requires { ⌜ Small (now card) s × Here (bytesOf (now card) s t) at i × (now piece ≡ pieceAt (bytesOf (now card) s t) at) × Filed (entries (bytesOf (now card) s t)) i (now heads) (now links) ⌝ }
     ensures { λ r. ⌜ (r ≡ pick (among (entries (bytesOf (now (card .entry)) s t)) i (nameAt (entries (bytesOf (now (card .entry)) s t)) i)) 0 (nameLength (bytesOf (now (card .entry)) s t) at)) × (r ≢ 0 → Filed (entries (bytesOf (now (card .entry)) s t)) (i + 1) (now (heads .exit)) (now (links .exit))) ⌝ }
 {
-    let mut page = [0; 70];
-    gather_stream(&*card, s, t, at, &mut page, 0, 70);
-    let n = number(&page, 4, 2);
-    let e = 6 + least(n, 64);
-    let h = bucket(&page[6..e]);
+    let n = number(&*piece, 4, 2);
+    let e = 6 + n;
+    let h = bucket(&piece[6..e]);
     let x = number(&*heads, 4 * h, 4);
-    if met(&*card, s, t, &*links, x, &page[6..e]) {
+    if met(&*card, s, t, &*links, x, &piece[6..e]) {
         return 0;
     }
     put_number(links, 8 * i, 4, at);
@@ -83,10 +84,15 @@ fn file_entries(card: &[u8], s: Shape, t: Desc, heads: &mut [u8], links: &mut [u
     ensures { λ r. ⌜ r ≡ distinctNames (entries (bytesOf (now (card .entry)) s t)) ⌝ }
 {
     let size = t.size;
+    let mut page = [0; PAGE];
+    let mut from = size;
     let mut at = 0;
     let mut i = 0;
     while at < size {
-        let n = file_entry(&*card, s, t, at, i, heads, links);
+        from = turn(&*card, s, t, &mut page, from, at);
+        let o = at - from;
+        let e = o + least(PIECE, size - at);
+        let n = file_entry(&*card, s, t, &page[o..e], at, i, heads, links);
         if n == 0 {
             return false;
         }

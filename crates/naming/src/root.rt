@@ -1,12 +1,14 @@
 // Rule 8: the root's entries, their names, and the streams that they lead to.
 use crate::apart::names_apart;
+use filing::entries::read_head;
 use filing::names::good_name;
-use laying::gather::gather_stream;
+use filing::pages::PAGE;
+use filing::pages::PIECE;
+use filing::pages::turn;
 use layout::Desc;
 use layout::Shape;
 use marking::marks::mark;
-use memory::bytes::number;
-use memory::numbers::minus;
+use memory::numbers::least;
 use memory::runs::clear;
 use stream::descs::descriptor;
 use stream::descs::descriptors;
@@ -26,29 +28,23 @@ ghost use Rattle.layout.specs.Ranges.{Small};
 ghost use Rattle.tables.specs.OnPage.{Reads};
 ghost use Rattle.naming.specs.Rooted.{bytesOf, goodAt, tidyFrom, indices};
 
-// Marks the stream that the entry at `at` leads to and gives its name's length; 0 where the entry is cut off, its name is
-// not good, or its stream is out of range or marked.
-fn mark_entry(card: &[u8], s: Shape, t: Desc, at: usize, n: usize, marks: &mut [u8]) -> usize
-    requires { ⌜ Small (now card) s ⌝ }
-    ensures { λ r. ⌜ (r ≡ pick (both (goodAt (bytesOf (now (card .entry)) s t) at) (fresh n (now (marks .entry)) (num 4 (bytesOf (now (card .entry)) s t) at))) (nameLength (bytesOf (now (card .entry)) s t) at) 0) × (r ≢ 0 → now (marks .exit) ≡ set (now (marks .entry)) (num 4 (bytesOf (now (card .entry)) s t) at) 1) ⌝ }
+// Marks the stream that the entry in front of `piece` leads to and gives its name's length; 0 where the entry is cut off, its
+// name is not good, or its stream is out of range or marked.
+fn mark_entry(piece: &[u8], n: usize, marks: &mut [u8]) -> usize
+    ensures { λ r. ⌜ (r ≡ pick (both (goodAt (now (piece .entry)) 0) (fresh n (now (marks .entry)) (num 4 (now (piece .entry)) 0))) (nameLength (now (piece .entry)) 0) 0) × (r ≢ 0 → now (marks .exit) ≡ set (now (marks .entry)) (num 4 (now (piece .entry)) 0) 1) ⌝ }
 {
-    let mut page = [0; 70];
-    gather_stream(&*card, s, t, at, &mut page, 0, 70);
-    let len = number(&page, 4, 2);
-    if 64 < len {
+    let h = read_head(&*piece);
+    let e = 6 + h.length;
+    if piece.len() < e {
         return 0;
     }
-    let e = 6 + len;
-    if minus(t.size, at) < e {
+    if !good_name(&piece[6..e]) {
         return 0;
     }
-    if !good_name(&page[6..e]) {
+    if !mark(marks, n, h.index) {
         return 0;
     }
-    if !mark(marks, n, number(&page, 0, 4)) {
-        return 0;
-    }
-    len
+    h.length
 }
 
 // Marks the streams that the entries lead to, up to the first entry that is not in order.
@@ -57,9 +53,14 @@ fn mark_entries(card: &[u8], s: Shape, t: Desc, n: usize, marks: &mut [u8]) -> b
     ensures { λ r. ⌜ (r ≡ both (tidyFrom (bytesOf (now (card .entry)) s t) 0) (markOk n (now (marks .entry)) (indices (entries (bytesOf (now (card .entry)) s t))))) × (r ≡ true → now (marks .exit) ≡ markSet n (now (marks .entry)) (indices (entries (bytesOf (now (card .entry)) s t)))) ⌝ }
 {
     let size = t.size;
+    let mut page = [0; PAGE];
+    let mut from = size;
     let mut at = 0;
     while at < size {
-        let len = mark_entry(&*card, s, t, at, n, marks);
+        from = turn(&*card, s, t, &mut page, from, at);
+        let o = at - from;
+        let e = o + least(PIECE, size - at);
+        let len = mark_entry(&page[o..e], n, marks);
         if len == 0 {
             return false;
         }

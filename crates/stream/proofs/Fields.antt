@@ -34,7 +34,7 @@ three-fields l l₁ l₂ l₃ s at size top d e f g =
     let y : over l at (a ++ b) ≡ over (over l at a) (at + 8) b = rw (over-append l at a b, length-bytes 8 size) in
     g ∙ ap (λ (t : List ℕ). over t (at + 16) r) (f ∙ ap (λ (t : List ℕ). over t (at + 8) b) e ∙ sym y) ∙ sym x
 
-num-shift : (n : ℕ) (l l′ : List ℕ) (p q : ℕ) → ((i : ℕ) → i < n → getD l (p + i) 0 ≡ getD l′ (q + i) 0) → num n l p ≡ num n l′ q
+pub num-shift : (n : ℕ) (l l′ : List ℕ) (p q : ℕ) → ((i : ℕ) → i < n → getD l (p + i) 0 ≡ getD l′ (q + i) 0) → num n l p ≡ num n l′ q
 unfolding num
 num-shift zero l l′ p q h = refl
 num-shift (suc n) l l′ p q h =

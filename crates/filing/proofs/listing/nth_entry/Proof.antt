@@ -1,6 +1,6 @@
 -- `filing::listing::nth_entry` keeps its promise.
 use borrow.Author.Needs.{needs}
-use mathlib.Core.Path.{_≡_, sym, _∙_}
+use mathlib.Core.Path.{_≡_, refl, sym, _∙_}
 use lib.ListN.{length}
 use Prim.Native.Nat.{_-_, _^_, _<_}
 use native.Mathlib.Omega.{arith}
@@ -8,18 +8,57 @@ use Rattle.layout.specs.Streams.{dataOf, contents}
 use Rattle.layout.specs.Filing.{entries, entriesFrom}
 use Rattle.laws.proofs.Laying.{length-contents}
 use Rattle.filing.specs.Located.{numbered}
+use Rattle.filing.specs.Paged.{Paged}
+use Rattle.filing.proofs.Paging.{page-blank, turned-fits, turned-piece, piece-index, piece-length}
 use Rattle.filing.proofs.Finding.{entries-start, nth-here, nth-next, nth-none}
 use Rattle.filing.proofs.listing.nth_entry.Statement.{statement}
 use Rattle.filing.proofs.listing.nth_entry.Tie as tie
 
 abbrev Inv-loop : tie.InvT-loop
-Inv-loop card s t n size at₀ left₀ at left = (at < 2 ^ 63) × (numbered (entriesFrom (length (contents card s (t .top) (dataOf s t) (t .size))) (contents card s (t .top) (dataOf s t) (t .size)) at) left ≡ numbered (entries (contents card s (t .top) (dataOf s t) (t .size))) n)
+Inv-loop card s t n size page₀ from₀ at₀ left₀ page from at left = Paged page from (contents card s (t .top) (dataOf s t) (t .size)) × (at < 2 ^ 63) × (numbered (entriesFrom (length (contents card s (t .top) (dataOf s t) (t .size))) (contents card s (t .top) (dataOf s t) (t .size)) at) left ≡ numbered (entries (contents card s (t .top) (dataOf s t) (t .size))) n)
 
 abbrev μ-loop : tie.MeasureT-loop
-μ-loop card s t n size at₀ left₀ at left = t .size - at
+μ-loop card s t n size page₀ from₀ at₀ left₀ page from at left = t .size - at
 
 loop-holds : tie.Need-loop-holds Inv-loop μ-loop
-loop-holds c = (omega arith, rw (entries-start _))
+loop-holds c = (page-blank _ _ (sym (length-contents _ _ _ _ _)), omega arith, rw (entries-start _))
+
+slice-aggregate-turn : tie.Need-slice-aggregate-turn Inv-loop μ-loop
+slice-aggregate-turn c =
+    let at-loop = c .before .before .loop in
+    omega (arith, at-loop .inv .0 .long)
+
+turn-requires : tie.Need-turn-requires Inv-loop μ-loop
+turn-requires c κs =
+    let at-start = c .before .before .before .before in
+    let at-loop = c .before .before .loop in
+    (at-start .pre .0, at-loop .inv .0)
+
+sub-o : tie.Need-sub-o Inv-loop μ-loop
+sub-o c =
+    let at-turn = c .before .turn in
+    omega (arith, at-turn .ensures .low)
+
+sub-least : tie.Need-sub-least Inv-loop μ-loop
+sub-least c = search needs
+
+least-requires : tie.Need-least-requires Inv-loop μ-loop
+least-requires c κs = search needs
+
+add-e : tie.Need-add-e Inv-loop μ-loop
+add-e c = search needs
+
+sub-read-head : tie.Need-sub-read-head Inv-loop μ-loop
+sub-read-head c = search needs
+
+part-read-head-start : tie.Need-part-read-head-start Inv-loop μ-loop
+part-read-head-start c = search needs
+
+part-read-head-end : tie.Need-part-read-head-end Inv-loop μ-loop
+part-read-head-end c =
+    let at-turn = c .before .before .before .turn in
+    let at-least = c .before .least in
+    omega (arith, turned-fits _ _ _ _ _ _ _ (at-turn .ensures) (sym (length-contents _ _ _ _ _)) refl (at-least .ensures))
 
 read-head-requires : tie.Need-read-head-requires Inv-loop μ-loop
 read-head-requires c κs = search needs
@@ -30,18 +69,22 @@ add-minus c = search needs
 minus-requires : tie.Need-minus-requires Inv-loop μ-loop
 minus-requires c κs = search needs
 
-least-requires : tie.Need-least-requires Inv-loop μ-loop
-least-requires c κs = search needs
+least-requires-2 : tie.Need-least-requires-2 Inv-loop μ-loop
+least-requires-2 c κs = search needs
 
 returns : tie.Need-returns Inv-loop μ-loop
 returns c =
-    let at-loop-test = c .before .before .before .before .loop-test in
+    let at-turn = c .before .before .before .before .before .before .before .before .turn in
+    let at-least = c .before .before .before .before .before .before .least in
+    let at-loop-test = c .before .before .before .before .before .before .before .before .before .before .loop-test in
     let at-read-head = c .before .before .before .read-head in
     let at-if1 = c .before .before .if1 in
     let at-minus = c .before .minus in
-    let at-least = c .least in
-    let at-loop = c .before .before .before .before .before .loop in
-    (nth-here _ _ _ _ (rw length-contents (at-loop-test .taken)) (at-read-head .ensures .0) (at-read-head .ensures .1) _ _ _ (at-if1 .taken) (rw length-contents (at-minus .ensures)) (at-least .ensures) ∙ at-loop .inv .1, omega (arith, at-loop-test .taken))
+    let at-least2 = c .least2 in
+    let at-loop = c .before .before .before .before .before .before .before .before .before .before .before .loop in
+    let long = sym (length-contents _ _ _ _ _) in
+    let w = turned-piece _ _ _ _ _ _ _ (at-turn .ensures) long refl (at-least .ensures) in
+    (nth-here _ _ _ _ _ long (at-loop-test .taken) (piece-index _ _ _ w _ (at-read-head .ensures .0)) (piece-length _ _ _ w _ (at-read-head .ensures .1)) _ _ _ (at-if1 .taken) (at-minus .ensures) (at-least2 .ensures) ∙ at-loop .inv .2, omega (arith, at-loop-test .taken))
 
 add-at : tie.Need-add-at Inv-loop μ-loop
 add-at c = search needs
@@ -57,19 +100,26 @@ loop-less c = search needs
 
 loop-again : tie.Need-loop-again Inv-loop μ-loop
 loop-again c =
-    let at-loop-test = c .before .before .before .loop-test in
-    let at-start = c .before .before .before .before .before .before in
+    let at-turn = c .before .before .before .before .before .before .before .turn in
+    let at-least = c .before .before .before .before .before .least in
+    let at-loop-test = c .before .before .before .before .before .before .before .before .before .loop-test in
+    let at-start = c .before .before .before .before .before .before .before .before .before .before .before .before in
     let at-read-head = c .before .before .read-head in
     let at-if1 = c .before .if1 in
-    let at-loop = c .before .before .before .before .loop in
-    (omega (arith, at-loop-test .taken, at-start .pre .1, at-read-head .ensures .2), nth-next _ _ _ _ (rw length-contents (at-loop-test .taken)) (at-read-head .ensures .0) (at-read-head .ensures .1) _ (at-if1 .left) ∙ at-loop .inv .1)
+    let at-loop = c .before .before .before .before .before .before .before .before .before .before .loop in
+    let long = sym (length-contents _ _ _ _ _) in
+    let w = turned-piece _ _ _ _ _ _ _ (at-turn .ensures) long refl (at-least .ensures) in (
+      at-turn .ensures .paged,
+      omega (arith, at-loop-test .taken, at-start .pre .1, at-read-head .ensures .2),
+      nth-next _ _ _ _ _ long (at-loop-test .taken) (piece-index _ _ _ w _ (at-read-head .ensures .0)) (piece-length _ _ _ w _ (at-read-head .ensures .1)) _ (at-if1 .left) ∙ at-loop .inv .2,
+    )
 
 returns-2 : tie.Need-returns-2 Inv-loop μ-loop
 returns-2 c =
     let at-start = c .before .before .before in
     let at-loop = c .before .loop in
     let at-loop-test = c .loop-test in
-    let a = at-start .args in (nth-none (contents (a .card .now) (a .s) (a .t .top) (dataOf (a .s) (a .t)) (a .t .size)) _ _ _ _ (at-loop .inv .1) (sym (length-contents _ _ _ _ _)) (at-loop-test .left), omega arith)
+    let a = at-start .args in (nth-none (contents (a .card .now) (a .s) (a .t .top) (dataOf (a .s) (a .t)) (a .t .size)) _ _ _ _ (at-loop .inv .2) (sym (length-contents _ _ _ _ _)) (at-loop-test .left), omega arith)
 
 pub nth-entry-spec : {M : Type 1} → statement M
 nth-entry-spec =
@@ -78,10 +128,19 @@ nth-entry-spec =
     Inv-loop
     μ-loop
     loop-holds
+    slice-aggregate-turn
+    turn-requires
+    sub-o
+    sub-least
+    least-requires
+    add-e
+    sub-read-head
+    part-read-head-start
+    part-read-head-end
     read-head-requires
     add-minus
     minus-requires
-    least-requires
+    least-requires-2
     returns
     add-at
     add-at-2

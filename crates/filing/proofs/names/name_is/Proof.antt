@@ -4,6 +4,9 @@ use borrow.Author.Needs.{needs}
 use Rattle.filing.proofs.names.name_is.Statement.{statement}
 use Rattle.filing.proofs.names.name_is.Tie as tie
 
+number-requires : tie.Need-number-requires
+number-requires c κs = search needs
+
 minus-requires : tie.Need-minus-requires
 minus-requires c κs = search needs
 
@@ -12,42 +15,25 @@ least-requires c κs = search needs
 
 returns : tie.Need-returns
 returns c =
+    let at-number = c .before .before .before .number in
     let at-least = c .before .least in
     let at-minus = c .before .before .minus in
     let at-if1 = c .if1 in
-    name-other _ _ _ _ _ _ _ _ _ _ (at-least .ensures) (at-minus .ensures) (at-if1 .taken)
-
-slice-aggregate-gather-stream : tie.Need-slice-aggregate-gather-stream
-slice-aggregate-gather-stream c = search needs
-
-gather-stream-requires : tie.Need-gather-stream-requires
-gather-stream-requires c κs = search needs
-
-slice-aggregate-matches : tie.Need-slice-aggregate-matches
-slice-aggregate-matches c = search needs
+    name-other _ _ _ _ _ (at-number .ensures .0) (at-least .ensures) (at-minus .ensures) (at-if1 .taken)
 
 matches-requires : tie.Need-matches-requires
 matches-requires c κs = search needs
 
 returns-2 : tie.Need-returns-2
 returns-2 c =
-    let at-least = c .before .before .before .before .before .before .least in
-    let at-minus = c .before .before .before .before .before .before .before .minus in
-    let at-if1 = c .before .before .before .before .before .if1 in
-    let at-start = c .before .before .before .before .before .before .before .before .before .before in
-    let at-gather-stream = c .before .before .before .gather-stream in
+    let at-number = c .before .before .before .before .number in
+    let at-least = c .before .before .least in
+    let at-minus = c .before .before .before .minus in
+    let at-if1 = c .before .if1 in
     let at-matches = c .matches in
-    name-compared _ _ _ _ _ _ _ _ _ _ (at-least .ensures) (at-minus .ensures) _ _ (at-if1 .left) (at-start .pre .1) (at-gather-stream .ensures) (at-matches .ensures)
+    name-compared _ _ _ _ _ (at-number .ensures .0) (at-least .ensures) (at-minus .ensures) _ (at-if1 .left) (at-matches .ensures)
 
 pub name-is-spec : {M : Type 1} → statement M
 name-is-spec =
     tie.close
-    (tie.spec
-    minus-requires
-    least-requires
-    returns
-    slice-aggregate-gather-stream
-    gather-stream-requires
-    slice-aggregate-matches
-    matches-requires
-    returns-2)
+    (tie.spec number-requires minus-requires least-requires returns matches-requires returns-2)

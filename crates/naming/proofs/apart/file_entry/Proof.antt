@@ -1,25 +1,13 @@
 -- `naming::apart::file_entry` keeps its promise.
-use borrow.Author.Needs.{needs}
 use mathlib.Core.Path.{refl}
 use native.Mathlib.Omega.{arith}
-use Rattle.naming.proofs.Filed.{name-short, x-le, x-linked, x-own, file-met, file-new, file-filed}
+use Rattle.naming.proofs.Filed.{entry-fits, name-short, x-le, x-linked, x-own, file-met, file-new, file-filed}
+use borrow.Author.Needs.{needs}
 use Rattle.naming.proofs.apart.file_entry.Statement.{statement}
 use Rattle.naming.proofs.apart.file_entry.Tie as tie
 
-slice-aggregate-gather-stream : tie.Need-slice-aggregate-gather-stream
-slice-aggregate-gather-stream c = search needs
-
-gather-stream-requires : tie.Need-gather-stream-requires
-gather-stream-requires c κs = search needs
-
-slice-aggregate-number : tie.Need-slice-aggregate-number
-slice-aggregate-number c = search needs
-
 number-requires : tie.Need-number-requires
 number-requires c κs = search needs
-
-least-requires : tie.Need-least-requires
-least-requires c κs = search needs
 
 add-e : tie.Need-add-e
 add-e c = search needs
@@ -31,7 +19,10 @@ part-bucket-start : tie.Need-part-bucket-start
 part-bucket-start c = search needs
 
 part-bucket-end : tie.Need-part-bucket-end
-part-bucket-end c = search needs
+part-bucket-end c =
+    let at-start = c .before .before .before .before .before in
+    let at-number = c .number in
+    omega (arith, entry-fits _ _ _ (at-start .pre .1) _ _ (at-start .pre .3) _ (at-start .pre .2) _ (at-number .ensures .0))
 
 bucket-requires : tie.Need-bucket-requires
 bucket-requires c κs = search needs
@@ -49,23 +40,24 @@ part-met-start : tie.Need-part-met-start
 part-met-start c = search needs
 
 part-met-end : tie.Need-part-met-end
-part-met-end c = search needs
+part-met-end c =
+    let at-start = c .before .before .before .before .before .before .before .before .before .before in
+    let at-number = c .before .before .before .before .before .number in
+    omega (arith, entry-fits _ _ _ (at-start .pre .1) _ _ (at-start .pre .3) _ (at-start .pre .2) _ (at-number .ensures .0))
 
 met-requires : tie.Need-met-requires
 met-requires c κs =
-    let at-start = c .before .before .before .before .before .before .before .before .before .before .before .before .before .before .before .before .before in
-    let at-gather-stream = c .before .before .before .before .before .before .before .before .before .before .before .before .gather-stream in
-    let at-number = c .before .before .before .before .before .before .before .before .before .number in
-    let at-least = c .before .before .before .before .before .before .before .before .least in
-    let at-bucket = c .before .before .before .before .before .bucket in
-    let at-number2 = c .before .before .before .number2 in
-    let x-low = x-le _ _ _ (at-start .pre .1) _ _ (at-start .pre .2) _ (at-gather-stream .ensures) _ _ (at-number .ensures .0) (at-least .ensures) _ refl _ _ (at-bucket .ensures .0) (at-bucket .ensures .1) (at-number2 .ensures .0) in (
+    let at-start = c .before .before .before .before .before .before .before .before .before .before .before in
+    let at-number = c .before .before .before .before .before .before .number in
+    let at-bucket = c .before .before .before .before .bucket in
+    let at-number2 = c .before .before .number2 in
+    let x-low = x-le _ _ _ (at-start .pre .1) _ _ (at-start .pre .3) _ (at-start .pre .2) _ (at-number .ensures .0) _ refl _ _ (at-bucket .ensures .0) (at-bucket .ensures .1) (at-number2 .ensures .0) in (
       at-start .pre .0,
-      name-short _ _ _ (at-start .pre .1) _ _ (at-start .pre .2) _ (at-gather-stream .ensures) _ _ (at-number .ensures .0) (at-least .ensures) _ refl,
+      name-short _ _ _ (at-start .pre .1) _ _ (at-start .pre .3) _ (at-start .pre .2) _ (at-number .ensures .0) _ refl,
       omega (arith, x-low, at-start .pre .1 .few),
       omega (arith, x-low, at-start .pre .1 .inside),
-      x-linked _ _ _ (at-start .pre .1) _ _ (at-start .pre .2) _ (at-gather-stream .ensures) _ _ (at-number .ensures .0) (at-least .ensures) _ refl _ _ (at-bucket .ensures .0) (at-bucket .ensures .1) (at-number2 .ensures .0),
-      x-own _ _ _ (at-start .pre .1) _ _ (at-start .pre .2) _ (at-gather-stream .ensures) _ _ (at-number .ensures .0) (at-least .ensures) _ refl _ _ (at-bucket .ensures .0) (at-bucket .ensures .1) (at-number2 .ensures .0),
+      x-linked _ _ _ (at-start .pre .1) _ _ (at-start .pre .3) _ (at-start .pre .2) _ (at-number .ensures .0) _ refl _ _ (at-bucket .ensures .0) (at-bucket .ensures .1) (at-number2 .ensures .0),
+      x-own _ _ _ (at-start .pre .1) _ _ (at-start .pre .3) _ (at-start .pre .2) _ (at-number .ensures .0) _ refl _ _ (at-bucket .ensures .0) (at-bucket .ensures .1) (at-number2 .ensures .0),
     )
 
 same-length : tie.Need-same-length
@@ -76,15 +68,13 @@ same-length-2 c = search needs
 
 returns : tie.Need-returns
 returns c =
-    let at-start = c .before .before .before .before .before .before .before .before .before .before .before .before .before .before .before .before .before .before .before in
-    let at-gather-stream = c .before .before .before .before .before .before .before .before .before .before .before .before .before .before .gather-stream in
-    let at-number = c .before .before .before .before .before .before .before .before .before .before .before .number in
-    let at-least = c .before .before .before .before .before .before .before .before .before .before .least in
-    let at-bucket = c .before .before .before .before .before .before .before .bucket in
-    let at-number2 = c .before .before .before .before .before .number2 in
+    let at-start = c .before .before .before .before .before .before .before .before .before .before .before .before .before in
+    let at-number = c .before .before .before .before .before .before .before .before .number in
+    let at-bucket = c .before .before .before .before .before .before .bucket in
+    let at-number2 = c .before .before .before .before .number2 in
     let at-met = c .before .met in
     let at-if1 = c .if1 in
-    (file-met _ _ _ (at-start .pre .1) _ _ (at-start .pre .2) _ (at-gather-stream .ensures) _ _ (at-number .ensures .0) (at-least .ensures) _ refl _ _ (at-bucket .ensures .0) (at-bucket .ensures .1) (at-number2 .ensures .0) _ (at-met .ensures) (at-if1 .taken), λ z. absurd (z refl))
+    (file-met _ _ _ (at-start .pre .1) _ _ (at-start .pre .3) _ (at-start .pre .2) _ (at-number .ensures .0) _ refl _ _ (at-bucket .ensures .0) (at-bucket .ensures .1) (at-number2 .ensures .0) _ (at-met .ensures) (at-if1 .taken), λ z. absurd (z refl))
 
 mul-put-number : tie.Need-mul-put-number
 mul-put-number c = search needs
@@ -94,12 +84,12 @@ put-number-requires c κs = search needs
 
 mul-put-number-2 : tie.Need-mul-put-number-2
 mul-put-number-2 c =
-    let at-start = c .before .before .before .before .before .before .before .before .before .before .before .before .before .before .before .before .before .before .before .before .before .before .before .before in
+    let at-start = c .before .before .before .before .before .before .before .before .before .before .before .before .before .before .before .before .before .before in
     omega (arith, at-start .pre .1 .few)
 
 add-put-number : tie.Need-add-put-number
 add-put-number c =
-    let at-start = c .before .before .before .before .before .before .before .before .before .before .before .before .before .before .before .before .before .before .before .before .before .before .before .before in
+    let at-start = c .before .before .before .before .before .before .before .before .before .before .before .before .before .before .before .before .before .before in
     omega (arith, at-start .pre .1 .few)
 
 put-number-requires-2 : tie.Need-put-number-requires-2
@@ -110,7 +100,7 @@ mul-put-number-3 c = search needs
 
 add-put-number-2 : tie.Need-add-put-number-2
 add-put-number-2 c =
-    let at-start = c .before .before .before .before .before .before .before .before .before .before .before .before .before .before .before .before .before .before .before .before .before .before .before .before .before .before .before .before in
+    let at-start = c .before .before .before .before .before .before .before .before .before .before .before .before .before .before .before .before .before .before .before .before .before .before in
     omega (arith, at-start .pre .1 .few)
 
 put-number-requires-3 : tie.Need-put-number-requires-3
@@ -124,30 +114,24 @@ same-length-4 c = search needs
 
 returns-2 : tie.Need-returns-2
 returns-2 c =
-    let at-start = c .before .before .before .before .before .before .before .before .before .before .before .before .before .before .before .before .before .before .before .before .before .before .before .before .before .before .before .before .before .before .before in
-    let at-gather-stream = c .before .before .before .before .before .before .before .before .before .before .before .before .before .before .before .before .before .before .before .before .before .before .before .before .before .before .gather-stream in
-    let at-number = c .before .before .before .before .before .before .before .before .before .before .before .before .before .before .before .before .before .before .before .before .before .before .before .number in
-    let at-least = c .before .before .before .before .before .before .before .before .before .before .before .before .before .before .before .before .before .before .before .before .before .before .least in
-    let at-bucket = c .before .before .before .before .before .before .before .before .before .before .before .before .before .before .before .before .before .before .before .bucket in
-    let at-number2 = c .before .before .before .before .before .before .before .before .before .before .before .before .before .before .before .before .before .number2 in
+    let at-start = c .before .before .before .before .before .before .before .before .before .before .before .before .before .before .before .before .before .before .before .before .before .before .before .before .before in
+    let at-number = c .before .before .before .before .before .before .before .before .before .before .before .before .before .before .before .before .before .before .before .before .number in
+    let at-bucket = c .before .before .before .before .before .before .before .before .before .before .before .before .before .before .before .before .before .before .bucket in
+    let at-number2 = c .before .before .before .before .before .before .before .before .before .before .before .before .before .before .before .before .number2 in
     let at-met = c .before .before .before .before .before .before .before .before .before .before .before .before .before .met in
     let at-if1 = c .before .before .before .before .before .before .before .before .before .before .before .before .if1 in
     let at-put-number = c .before .before .before .before .before .before .before .before .before .before .put-number in
     let at-put-number2 = c .before .before .before .before .before .before .put-number2 in
     let at-put-number3 = c .before .before .put-number3 in (
-      file-new _ _ _ (at-start .pre .1) _ _ (at-start .pre .2) _ (at-gather-stream .ensures) _ _ (at-number .ensures .0) (at-least .ensures) _ refl _ _ (at-bucket .ensures .0) (at-bucket .ensures .1) (at-number2 .ensures .0) _ (at-met .ensures) (at-if1 .left),
-      λ z. file-filed _ _ _ (at-start .pre .1) _ _ (at-start .pre .2) _ (at-gather-stream .ensures) _ _ (at-number .ensures .0) (at-least .ensures) _ refl _ _ (at-bucket .ensures .0) (at-bucket .ensures .1) (at-number2 .ensures .0) _ _ _ (at-put-number .ensures) (at-put-number2 .ensures) (at-put-number3 .ensures),
+      file-new _ _ _ (at-start .pre .1) _ _ (at-start .pre .3) _ (at-start .pre .2) _ (at-number .ensures .0) _ refl _ _ (at-bucket .ensures .0) (at-bucket .ensures .1) (at-number2 .ensures .0) _ (at-met .ensures) (at-if1 .left),
+      λ z. file-filed _ _ _ (at-start .pre .1) _ _ (at-start .pre .3) _ (at-start .pre .2) _ (at-number .ensures .0) _ refl _ _ (at-bucket .ensures .0) (at-bucket .ensures .1) (at-number2 .ensures .0) _ _ _ (at-put-number .ensures) (at-put-number2 .ensures) (at-put-number3 .ensures),
     )
 
 pub file-entry-spec : {M : Type 1} → statement M
 file-entry-spec =
     tie.close
     (tie.spec
-    slice-aggregate-gather-stream
-    gather-stream-requires
-    slice-aggregate-number
     number-requires
-    least-requires
     add-e
     sub-bucket
     part-bucket-start

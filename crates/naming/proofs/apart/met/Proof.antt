@@ -34,38 +34,30 @@ mul-number c =
 number-requires : tie.Need-number-requires Inv-loop μ-loop
 number-requires c κs = search needs
 
-read-head-requires : tie.Need-read-head-requires Inv-loop μ-loop
-read-head-requires c κs = search needs
-
-add-name-is : tie.Need-add-name-is Inv-loop μ-loop
-add-name-is c =
-    let at-number = c .before .number in
-    omega (arith, at-number .ensures .1)
-
-name-is-requires : tie.Need-name-is-requires Inv-loop μ-loop
-name-is-requires c κs = search needs
+name-at-requires : tie.Need-name-at-requires Inv-loop μ-loop
+name-at-requires c κs = search needs
 
 returns : tie.Need-returns Inv-loop μ-loop
 returns c =
-    let at-loop-test = c .before .before .before .before .loop-test in
-    let at-loop = c .before .before .before .before .before .loop in
-    let at-start = c .before .before .before .before .before .before .before .before .before in
-    let at-number = c .before .before .before .number in
-    let at-read-head = c .before .before .read-head in
-    let at-name-is = c .before .name-is in
+    let at-loop-test = c .before .before .before .loop-test in
+    let at-loop = c .before .before .before .before .loop in
+    let at-start = c .before .before .before .before .before .before .before .before in
+    let at-number = c .before .before .number in
+    let at-name-at = c .before .name-at in
     let at-if1 = c .if1 in
-    met-here _ _ _ _ _ _ (at-loop-test .taken) (at-loop .inv .0) (at-start .pre .4) (at-loop .inv .1) (at-loop .inv .2) (met-same _ _ _ _ _ _ _ _ (at-loop-test .taken) (at-loop .inv .0) (at-start .pre .3) (at-start .pre .4) (at-number .ensures .0) (at-read-head .ensures .1) (at-name-is .ensures)) (at-if1 .taken)
+    let e = met-same _ _ _ _ _ _ _ (at-loop-test .taken) (at-loop .inv .0) (at-start .pre .3) (at-start .pre .4) (at-number .ensures .0) (at-name-at .ensures) in
+    met-here _ _ _ _ _ _ (at-loop-test .taken) (at-loop .inv .0) (at-start .pre .4) (at-loop .inv .1) (at-loop .inv .2) e (at-if1 .taken)
 
 mul-number-2 : tie.Need-mul-number-2 Inv-loop μ-loop
 mul-number-2 c =
-    let at-loop = c .before .before .before .before .before .loop in
-    let at-start = c .before .before .before .before .before .before .before .before .before in
+    let at-loop = c .before .before .before .before .loop in
+    let at-start = c .before .before .before .before .before .before .before .before in
     omega (arith, at-loop .inv .0, at-start .pre .2)
 
 add-number : tie.Need-add-number Inv-loop μ-loop
 add-number c =
-    let at-loop = c .before .before .before .before .before .loop in
-    let at-start = c .before .before .before .before .before .before .before .before .before in
+    let at-loop = c .before .before .before .before .loop in
+    let at-start = c .before .before .before .before .before .before .before .before in
     omega (arith, at-loop .inv .0, at-start .pre .2)
 
 number-requires-2 : tie.Need-number-requires-2 Inv-loop μ-loop
@@ -73,26 +65,25 @@ number-requires-2 c κs = search needs
 
 loop-less : tie.Need-loop-less Inv-loop μ-loop
 loop-less c =
-    let at-loop-test = c .before .before .before .before .before .loop-test in
-    let at-loop = c .before .before .before .before .before .before .loop in
-    let at-start = c .before .before .before .before .before .before .before .before .before .before in
-    let at-number = c .before .before .before .before .number in
-    let at-read-head = c .before .before .before .read-head in
-    let at-name-is = c .before .before .name-is in
+    let at-loop-test = c .before .before .before .before .loop-test in
+    let at-loop = c .before .before .before .before .before .loop in
+    let at-start = c .before .before .before .before .before .before .before .before .before in
+    let at-number = c .before .before .before .number in
+    let at-name-at = c .before .before .name-at in
     let at-number2 = c .number2 in
-    met-less _ _ _ _ _ _ (at-loop-test .taken) (at-loop .inv .0) (at-start .pre .4) (at-loop .inv .1) (at-loop .inv .2) (met-same _ _ _ _ _ _ _ _ (at-loop-test .taken) (at-loop .inv .0) (at-start .pre .3) (at-start .pre .4) (at-number .ensures .0) (at-read-head .ensures .1) (at-name-is .ensures)) _ (at-number2 .ensures .0)
+    let e = met-same _ _ _ _ _ _ _ (at-loop-test .taken) (at-loop .inv .0) (at-start .pre .3) (at-start .pre .4) (at-number .ensures .0) (at-name-at .ensures) in
+    met-less _ _ _ _ _ _ (at-loop-test .taken) (at-loop .inv .0) (at-start .pre .4) (at-loop .inv .1) (at-loop .inv .2) e _ (at-number2 .ensures .0)
 
 loop-again : tie.Need-loop-again Inv-loop μ-loop
 loop-again c =
-    let at-loop-test = c .before .before .before .before .before .loop-test in
-    let at-loop = c .before .before .before .before .before .before .loop in
-    let at-start = c .before .before .before .before .before .before .before .before .before .before in
-    let at-number = c .before .before .before .before .number in
-    let at-read-head = c .before .before .before .read-head in
-    let at-name-is = c .before .before .name-is in
+    let at-loop-test = c .before .before .before .before .loop-test in
+    let at-loop = c .before .before .before .before .before .loop in
+    let at-start = c .before .before .before .before .before .before .before .before .before in
+    let at-number = c .before .before .before .number in
+    let at-name-at = c .before .before .name-at in
     let at-number2 = c .number2 in
     let at-if1 = c .before .if1 in
-    let e = met-same _ _ _ _ _ _ _ _ (at-loop-test .taken) (at-loop .inv .0) (at-start .pre .3) (at-start .pre .4) (at-number .ensures .0) (at-read-head .ensures .1) (at-name-is .ensures) in
+    let e = met-same _ _ _ _ _ _ _ (at-loop-test .taken) (at-loop .inv .0) (at-start .pre .3) (at-start .pre .4) (at-number .ensures .0) (at-name-at .ensures) in
     let less = met-less _ _ _ _ _ _ (at-loop-test .taken) (at-loop .inv .0) (at-start .pre .4) (at-loop .inv .1) (at-loop .inv .2) e _ (at-number2 .ensures .0) in
     (omega (arith, less, at-loop .inv .0), met-own _ _ _ _ _ _ (at-loop-test .taken) (at-loop .inv .0) (at-start .pre .4) (at-loop .inv .1) (at-loop .inv .2) e _ (at-number2 .ensures .0), met-next _ _ _ _ _ _ (at-loop-test .taken) (at-loop .inv .0) (at-start .pre .4) (at-loop .inv .1) (at-loop .inv .2) e _ (at-number2 .ensures .0) (at-if1 .left))
 
@@ -112,9 +103,7 @@ met-spec =
     sub-j
     mul-number
     number-requires
-    read-head-requires
-    add-name-is
-    name-is-requires
+    name-at-requires
     returns
     mul-number-2
     add-number
