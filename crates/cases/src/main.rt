@@ -1,5 +1,6 @@
 // Damaged and scrambled cards, made as docs/CASES.md describes, each put to the check. For each card a line: the clause that it
 // breaks, its number, the rule that the check gives, and the sum of its bytes. What it must write is made by second/.
+#![tactic(auto)]
 mod chain;
 mod descriptors;
 mod entries;

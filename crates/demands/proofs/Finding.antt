@@ -14,6 +14,7 @@ use Rattle.demands.proofs.Items.{found}
 
 -- where an element stands
 at_in : {A : Type 0} (x d : A) (xs : List A) → In x xs → (i : ℕ) × (i < length xs) × (get_or xs i d ≡ x)
+at_in {A = A} x d mathlib.Core.List.[] x'' = elim x'' [ ]
 at_in x d (y ∷ xs) (inl e) = (0, omega arith, sym e)
 at_in x d (y ∷ xs) (inr h) = let r = at_in x d xs h in (suc r.0, omega (arith, r.1), r.2)
 

@@ -58,7 +58,7 @@ module _ (c : List ℕ) (w : Whole c) where
       let f = w.filed.reach in
       total_agree (λ k. needs s.size (stream c s k).size) _ (lives_of c s) live_cost
       ∙ sym (total_same (λ k. needs s.size (stream c s k).size) (0 ∷ indices (root_of c)) (lives_of c s) f.once f.many f.all)
-      ∙ rw total_map
+      ∙ ap (λ (x : ℕ). needs s.size (stream c s 0).size + x) (total_map (λ k. needs s.size (stream c s k).size) (λ e. e.index) (root_of c))
 
   item_costs : sum (λ f. needs (block_size (plain c)) (length f.bytes)) (plain c).items ≡ total (λ e. needs s.size (stream c s e.index).size) (root_of c)
   unfolding plain shape_of
@@ -67,7 +67,7 @@ module _ (c : List ℕ) (w : Whole c) where
   -- the table's and all of theirs
   all_costs : total (λ k. cost s (own c s k)) (owners c s) ≡ cost s (own c s 0) + total (λ k. cost s (own c s (suc k))) (lives_of c s)
   unfolding owners total
-  all_costs = rw total_map
+  all_costs = ap (λ (x : ℕ). cost s (own c s 0) + x) (total_map (λ k. cost s (own c s k)) suc (lives_of c s))
 
   shape_is : (block_size (plain c) ≡ s.size) × ((plain c).count ≡ s.count)
   unfolding plain shape_of

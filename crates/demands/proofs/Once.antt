@@ -30,6 +30,7 @@ times_none b (x ∷ xs) n = rw (eqb_no {a = b} {b = x} (λ e. n (inl e))) (times
 
 times-one : (b : ℕ) (xs : List ℕ) → Distinct xs → In b xs → times b xs ≡ 1
 unfolding times
+times-one b [] d x'' = elim x'' [ ]
 times-one b (x ∷ xs) d (inl e) = rw (eqb_yes e) (ap suc (times_none b xs (λ i. d.0 (rw (← e) i))))
 times-one b (x ∷ xs) d (inr i) = elim (ℕ_discrete b x) [
   | yes e ↦ absurd (d.0 (rw (← e) i))

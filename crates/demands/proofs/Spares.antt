@@ -34,6 +34,7 @@ spare c s k n = rising s.count 0 (surplus_of c s k n)
 -- ---- the same blocks, the same surplus, the same places of the bytes
 
 map_same : {A : Type 0} (g g' : A → ℕ) (xs : List A) → map g xs ≡ map g' xs → (x : A) → In x xs → g x ≡ g' x
+map_same {A = A} g g' [] e x x4 = elim x4 [ ]
 map_same g g' (y ∷ xs) e x (inl u) = let h : g y ≡ g' y = cc in rw u h
 map_same g g' (y ∷ xs) e x (inr i) = let t : map g xs ≡ map g' xs = cc in map_same g g' xs t x i
 

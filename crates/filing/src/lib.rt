@@ -1,4 +1,5 @@
 // Directories: names and entries, read page by page from a stream; entries appended and removed.
+#![tactic(auto)]
 
 pub mod edits;
 pub mod entries;

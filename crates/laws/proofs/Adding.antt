@@ -1,7 +1,7 @@
 -- One more live descriptor, of a stream with no bytes: the card keeps rules 1 to 7, and every stream is as it was.
-use mathlib.Core.Path.{◌≡◌, refl, ap, ◌∙◌}
+use mathlib.Core.Path.{◌≡◌, refl, sym, ap, ◌∙◌, subst}
 use mathlib.Core.Logic.{◌≢◌, ◌⊎◌, inl, inr}
-use mathlib.Core.List.{List, [], ◌∷◌}
+use mathlib.Core.List.{List, [], ◌∷◌, map}
 use Prim.Native.Nat.{ℕ, zero, suc, ◌≤◌, ◌<◌}
 use native.Mathlib.Nat.{zero-div}
 use native.Mathlib.Decide.{ℕ_discrete}
@@ -121,14 +121,14 @@ module _ (c c₁ : List ℕ) (s : Shape) (w : Core c s) (j : ℕ) (xs free ds : 
       to : (k : ℕ) → In k (owners c₁ s) → In k (suc j ∷ owners c s)
       to k (inl e) = inr (inl e)
       to k (inr i) = let r = map_in suc k (lives_of c₁ s) i in elim (only r.0 r.1) [
-        | inl u ↦ inr (inr (rw r.2 (in_map suc r.0 (lives_of c s) u)))
+        | inl u ↦ inr (inr (subst (λ (x : ℕ). In x (map suc (lives_of c s))) (sym r.2) (in_map suc r.0 (lives_of c s) u)))
         | inr u ↦ inl (r.2 ∙ ap suc u)
       ]
 
       fro : (k : ℕ) → In k (suc j ∷ owners c s) → In k (owners c₁ s)
-      fro k (inl e) = inr (rw e (in_map suc j (lives_of c₁ s) there))
+      fro k (inl e) = inr (subst (λ (x : ℕ). In x (map suc (lives_of c₁ s))) (sym e) (in_map suc j (lives_of c₁ s) there))
       fro k (inr (inl e)) = inl e
-      fro k (inr (inr i)) = let r = map_in suc k (lives_of c s) i in inr (rw r.2 (in_map suc r.0 (lives_of c₁ s) (old r.0 r.1)))
+      fro k (inr (inr i)) = let r = map_in suc k (lives_of c s) i in inr (subst (λ (x : ℕ). In x (map suc (lives_of c₁ s))) (sym r.2) (in_map suc r.0 (lives_of c₁ s) (old r.0 r.1)))
 
   form₁ : (k : ℕ) → k < slots_of c₁ s → Form s (stream c₁ s k)
   form₁ k l = elim (ℕ_discrete k j) [

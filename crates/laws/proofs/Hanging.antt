@@ -1,5 +1,5 @@
 -- Blocks taken and hung one below the other.
-use mathlib.Core.Path.{◌≡◌, refl, sym, ap, ◌∙◌}
+use mathlib.Core.Path.{◌≡◌, refl, sym, ap, ◌∙◌, subst}
 use mathlib.Core.Logic.{◌≢◌, inl, inr}
 use mathlib.Core.List.{List, [], ◌∷◌, ◌++◌}
 use Prim.Native.Nat.{ℕ, suc, ◌+◌, ◌-◌, ◌≤◌, ◌<◌}
@@ -114,7 +114,7 @@ module _ (s : Shape) (good : Good s) where
   hung_hangs [] rest c b j r = tt
   hung_hangs (x ∷ xs) rest c b j r =
       let q = hooked_ready c x (xs ++ rest) b j r in
-      rw (hung-step c x (xs ++ rest) b j r (length xs)) (
+      subst (λ (c' : List ℕ). Hangs c' s b j (x ∷ xs)) (sym (hung-step c x (xs ++ rest) b j r (length xs))) (
         num_agree 4 _ (hooked c s b j) (slot_place s b j) (λ i u v.
             let a = slot-inside b j i r.fits u v in
             hung_else xs rest (hooked c s b j) x 0 q i (block_field b i a) (slot_apart x 0 b i q.fits a (λ e. r.out (inl e)))
@@ -127,6 +127,7 @@ module _ (s : Shape) (good : Good s) where
   pub hung_blank : (xs rest c : List ℕ) (b j : ℕ) → Ready c s b j (xs ++ rest)
       → (y : ℕ) → In y xs → (i : ℕ) → Inside s y i → NotSlot s y 0 i → get_or (hung (length xs) c s b j) i 0 ≡ 0
   unfolding hung
+  hung_blank [] rest c b j r y x4 i a h = elim x4 [ ]
   hung_blank (x ∷ xs) rest c b j r y (inl e) i a h =
       let q = hooked_ready c x (xs ++ rest) b j r in
       rw (hung-step c x (xs ++ rest) b j r (length xs))

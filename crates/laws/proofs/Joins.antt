@@ -29,6 +29,7 @@ module _ {A : Type 0} where
 
   pub total_has : (g : A → ℕ) (k : A) (ks : List A) → In k ks → g k ≤ total g ks
   unfolding total
+  total_has g k [] x' = elim x' [ ]
   total_has g k (x ∷ ks) (inl e) = rw e (omega arith)
   total_has g k (x ∷ ks) (inr i) = omega (arith, total_has g k ks i)
 
@@ -39,6 +40,7 @@ module _ {A : Type 0} where
 
   -- what stands in a list stands between two parts of it
   pub in_split : (x : A) (ys : List A) → In x ys → (us bs : List A) × (ys ≡ us ++ x ∷ bs)
+  in_split x [] x'' = elim x'' [ ]
   in_split x (y ∷ ys) (inl e) = ([], ys, rw e)
   in_split x (y ∷ ys) (inr i) = let r = in_split x ys i in (y ∷ r.0, r.1, ap {B = List A} (λ l. y ∷ l) r.2)
 
@@ -71,6 +73,7 @@ total_map g h (k ∷ ks) = ap (λ (x : ℕ). g (h k) + x) (total_map g h ks)
 pub total_change : (g g' : ℕ → ℕ) (k : ℕ) (ks : List ℕ) → Distinct ks → In k ks → ((j : ℕ) → In j ks → j ≢ k → g' j ≡ g j)
     → total g' ks + g k ≡ total g ks + g' k
 unfolding total
+total_change g g' k [] d x3 h = elim x3 [ ]
 total_change g g' k (x ∷ ks) d (inl e) h =
     let t = total_agree g g' ks (λ j i. h j (inr i) (λ u. d.0 (rw (← e, ← u) i))) in
     rw e (omega arith)
@@ -83,6 +86,7 @@ total_change g g' k (x ∷ ks) d (inr i) h =
 module _ (f : ℕ → List ℕ) where
   pub in_join : (k b : ℕ) (ks : List ℕ) → In k ks → In b (f k) → In b (join f ks)
   unfolding join
+  in_join k b [] x'' i = elim x'' [ ]
   in_join k b (x ∷ ks) (inl e) i = in_left b (f x) (join f ks) (rw (← e) i)
   in_join k b (x ∷ ks) (inr h) i = in_right b (f x) (join f ks) (in_join k b ks h i)
 
@@ -106,11 +110,13 @@ module _ (f : ℕ → List ℕ) where
   -- and back
   pub join-distinct : (ks : List ℕ) → Distinct (join f ks) → (k : ℕ) → In k ks → Distinct (f k)
   unfolding join
+  join-distinct [] d k x'' = elim x'' [ ]
   join-distinct (x ∷ ks) d k (inl e) = rw e (distinct_left (f x) (join f ks) d)
   join-distinct (x ∷ ks) d k (inr i) = join-distinct ks (distinct_right (f x) (join f ks) d) k i
 
   pub join_apart : (ks : List ℕ) → Distinct (join f ks) → (k k' : ℕ) → In k ks → In k' ks → k ≢ k' → (b : ℕ) → In b (f k) → In b (f k') → ⊥
   unfolding join
+  join_apart [] d k k' x6 _ n b p q = elim x6 [ ]
   join_apart (x ∷ ks) d k k' (inl e) (inl e') n b p q = n (e ∙ sym e')
   join_apart (x ∷ ks) d k k' (inl e) (inr i') n b p q = distinct_apart (f x) (join f ks) d b (rw (← e) p) (in_join k' b ks i' q)
   join_apart (x ∷ ks) d k k' (inr i) (inl e') n b p q = distinct_apart (f x) (join f ks) d b (rw (← e') q) (in_join k b ks i p)

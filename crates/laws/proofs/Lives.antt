@@ -27,6 +27,7 @@ module _ (p : ℕ → Bool) where
 
   pub in_those : (xs : List ℕ) (x : ℕ) → In x xs → T (p x) → In x (those p xs)
   unfolding those
+  in_those [] x x4 t = elim x4 [ ]
   in_those (y ∷ xs) x (inl e) t = rw (← e) (go (p x) t)
     where
       go : (b : Bool) → T b → In x (pick b (x ∷ those p xs) (those p xs))

@@ -1,7 +1,7 @@
 -- A descriptor of a stream with no bytes is put first on the descriptors' chain.
 use mathlib.Core.Path.{◌≡◌, refl, sym, ap, ◌∙◌, subst}
 use mathlib.Core.Logic.{◌≢◌, inl, inr}
-use mathlib.Core.List.{List, ◌∷◌, ◌++◌}
+use mathlib.Core.List.{List, ◌∷◌, ◌++◌, map}
 use Prim.Native.Nat.{ℕ, zero, suc, ◌+◌, ◌^◌, ◌≤◌, ◌<◌}
 use native.Mathlib.Decide.{ℕ_discrete, dec_lt}
 use native.Mathlib.Omega.{arith}
@@ -161,15 +161,15 @@ module _ (c : List ℕ) (s : Shape) (w : Core c s) (j : ℕ) (lj : In j (lives_o
       fresh (inr i) = let r = map_in suc (suc j) (lives_of c₁ s) i in gone (let e : r.0 ≡ j = omega (arith, r.2) in subst (λ (x : ℕ). In x (lives_of c₁ s)) e r.1)
 
       to : (k : ℕ) → In k (suc j ∷ owners c₁ s) → In k (owners c s)
-      to k (inl e) = inr (rw e (in_map suc j (lives_of c s) lj))
+      to k (inl e) = inr (subst (λ (x : ℕ). In x (map suc (lives_of c s))) (sym e) (in_map suc j (lives_of c s) lj))
       to k (inr (inl e)) = inl e
-      to k (inr (inr i)) = let r = map_in suc k (lives_of c₁ s) i in inr (rw r.2 (in_map suc r.0 (lives_of c s) (only r.0 r.1)))
+      to k (inr (inr i)) = let r = map_in suc k (lives_of c₁ s) i in inr (subst (λ (x : ℕ). In x (map suc (lives_of c s))) (sym r.2) (in_map suc r.0 (lives_of c s) (only r.0 r.1)))
 
       fro : (k : ℕ) → In k (owners c s) → In k (suc j ∷ owners c₁ s)
       fro k (inl e) = inr (inl e)
       fro k (inr i) = let r = map_in suc k (lives_of c s) i in elim (ℕ_discrete r.0 j) [
         | yes e ↦ inl (r.2 ∙ ap suc e)
-        | no n ↦ inr (inr (rw r.2 (in_map suc r.0 (lives_of c₁ s) (rest r.0 r.1 n))))
+        | no n ↦ inr (inr (subst (λ (x : ℕ). In x (map suc (lives_of c₁ s))) (sym r.2) (in_map suc r.0 (lives_of c₁ s) (rest r.0 r.1 n))))
       ]
 
   form₁ : (k : ℕ) → k < slots_of c₁ s → Form s (stream c₁ s k)

@@ -1,5 +1,6 @@
 // Runs of calls, made as docs/CASES.md describes, on cards of many shapes, sound and damaged. For each call a line: which it is,
 // its answer's numbers, and the sum of card and tray. What it must write is made by second/.
+#![tactic(auto)]
 mod answers;
 mod calls;
 mod damage;

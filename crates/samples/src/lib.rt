@@ -1,5 +1,6 @@
 // Cards made by plan, as docs/CASES.md describes: the plan drawn, its blocks given out, the card laid; and where its parts stand,
 // for the program `cases` to damage.
+#![tactic(auto)]
 
 pub mod blocks;
 pub mod cells;

@@ -1,4 +1,5 @@
 // Streams: descriptors, bytes and numbers inside a stream, and streams made longer and shorter.
+#![tactic(auto)]
 
 pub mod descs;
 pub mod inside;

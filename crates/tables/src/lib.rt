@@ -1,4 +1,5 @@
 // The stream table and its descriptors: rules 4 and 5.
+#![tactic(auto)]
 
 pub mod forms;
 pub mod spare;

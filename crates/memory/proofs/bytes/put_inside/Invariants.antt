@@ -1,0 +1,15 @@
+-- `memory::bytes::put_inside` keeps its promise.
+use borrow.Author.Rules.{rules}
+use mathlib.Core.Path.{◌≡◌, refl, ◌∙◌}
+use Prim.Native.Nat.{◌-◌, ◌≤◌}
+use native.Mathlib.Omega.{arith}
+use lib.ListN.{length, length-set}
+use Rattle.layout.specs.Bytes.{put}
+use Rattle.memory.proofs.Turns.{put-zero, put_step}
+use Rattle.memory.proofs.bytes.put_inside.Given as goal
+
+abbrev pub invariant-loop-left : goal.invariant-loop-left
+invariant-loop-left l = (l.left ≤ length l.card - l.p) × (length l.card ≡ length l.initial.card) × (put l.left l.card l.p l.rest ≡ put l.width l.initial.card l.at l.v)
+
+abbrev pub decreases-loop-left : goal.decreases-loop-left
+decreases-loop-left l = l.left

@@ -1,0 +1,10 @@
+-- `memory::runs::copy_halves` keeps its promise.
+use borrow.Author.Rules.{rules}
+use mathlib.Core.Path.{◌∙◌}
+use native.Mathlib.Omega.{arith}
+use Rattle.memory.proofs.Turns.{page-turn}
+use Prim.Native.Nat.{ℕ, ◌<◌}
+use Rattle.memory.proofs.runs.+copy_halves.Goals as goal
+
+pub returns : goal.returns
+returns t c = c.copy_halves-2.ensures ∙ page-turn _ c.args.src.now _ c.args.from c.args.n _ _ c.copy_halves.ensures (omega arith) (omega arith)

@@ -1,0 +1,15 @@
+-- `memory::runs::matches` keeps its promise.
+use borrow.Author.Rules.{rules}
+use mathlib.Core.Path.{◌≡◌, refl, ◌∙◌}
+use Prim.Native.Nat.{◌+◌, ◌-◌, ◌≤◌}
+use native.Mathlib.Omega.{arith}
+use lib.ListN.{length, drop}
+use Rattle.layout.specs.Bytes.{matches}
+use Rattle.memory.proofs.Turns.{match_step, match_stop, match_end}
+use Rattle.memory.proofs.runs.matches.Given as goal
+
+abbrev pub invariant-loop-i : goal.invariant-loop-i
+invariant-loop-i l = (l.i ≤ length l.run) × (l.p ≡ l.at + l.i) × (matches l.card l.p (drop l.i l.run) ≡ matches l.card l.at l.run)
+
+abbrev pub decreases-loop-i : goal.decreases-loop-i
+decreases-loop-i l = length l.run - l.i

@@ -1,0 +1,27 @@
+-- `memory::runs::matches_inside` keeps its promise.
+use mathlib.Core.Path.{◌≡◌, refl, ◌∙◌}
+use mathlib.Core.Logic.{⊎_elim}
+use Rattle.memory.proofs.Turns.{match_miss, match_keep, match_whole}
+use borrow.Author.Rules.{rules}
+use Prim.Native.Nat.{◌+◌}
+use native.Mathlib.Omega.{arith}
+use lib.ListN.{length, drop}
+use Rattle.layout.specs.Bytes.{both, matches}
+use Rattle.memory.proofs.runs.matches_inside.Goals as goal
+
+pub loop-left-init : goal.loop-left-init
+loop-left-init c = (omega arith, omega arith, refl)
+
+pub loop-left-preserved : goal.loop-left-preserved
+loop-left-preserved c = let card = c.args.card.now in
+    let run = c.args.run.now in (
+      omega arith,
+      omega arith,
+      ⊎_elim (λ w. match_miss card c.loop-left.p run c.loop-left.q _ refl (omega arith) c.loop-left.same c.if-card-p.same w.0.taken w.1)
+          (λ w. match_keep card c.loop-left.p run c.loop-left.q _ refl (omega arith) c.loop-left.same c.if-card-p.same w.0.left w.1)
+          c.if-card-p.branch
+          ∙ c.loop-left.invariant.2,
+    )
+
+pub returns : goal.returns
+returns c = match_whole _ _ _ c.args.run.now c.loop-left.q (omega arith) ∙ c.loop-left.invariant.2
