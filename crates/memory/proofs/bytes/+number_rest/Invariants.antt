@@ -8,4 +8,4 @@ use Prim.Native.Nat.{ℕ, ◌<◌}
 use Rattle.memory.proofs.bytes.+number_rest.Given as goal
 
 abbrev pub decreases-number_rest : goal.decreases-number_rest
-decreases-number_rest l = ? -- μ-number-rest κs a = a.1.1.0
+decreases-number_rest l = l.width

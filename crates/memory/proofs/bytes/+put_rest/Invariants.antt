@@ -10,4 +10,4 @@ use Prim.Native.Nat.{ℕ, ◌<◌}
 use Rattle.memory.proofs.bytes.+put_rest.Given as goal
 
 abbrev pub decreases-put_rest : goal.decreases-put_rest
-decreases-put_rest l = ? -- μ-put-rest κs a = a.1.1.0
+decreases-put_rest l = l.width

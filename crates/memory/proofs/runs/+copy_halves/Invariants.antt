@@ -7,4 +7,4 @@ use Prim.Native.Nat.{ℕ, ◌<◌}
 use Rattle.memory.proofs.runs.+copy_halves.Given as goal
 
 abbrev pub decreases-copy_halves : goal.decreases-copy_halves
-decreases-copy_halves l = ? -- μ-copy-halves κs a = a.1.1.1.1.0
+decreases-copy_halves l = l.n

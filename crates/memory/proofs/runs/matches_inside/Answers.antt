@@ -8,6 +8,7 @@ use native.Mathlib.Omega.{arith}
 use lib.ListN.{length, drop}
 use Rattle.layout.specs.Bytes.{both, matches}
 use Rattle.memory.proofs.runs.matches_inside.Goals as goal
+use Rattle.memory.proofs.runs.matches_inside.Goals.{then-card-p, else-card-p}
 
 pub loop-left-init : goal.loop-left-init
 loop-left-init c = (omega arith, omega arith, refl)
@@ -17,9 +18,10 @@ loop-left-preserved c = let card = c.args.card.now in
     let run = c.args.run.now in (
       omega arith,
       omega arith,
-      ⊎_elim (λ w. match_miss card c.loop-left.p run c.loop-left.q _ refl (omega arith) c.loop-left.same c.if-card-p.same w.0.taken w.1)
-          (λ w. match_keep card c.loop-left.p run c.loop-left.q _ refl (omega arith) c.loop-left.same c.if-card-p.same w.0.left w.1)
-          c.if-card-p.branch
+      elim c.if-card-p.branch [
+        | then-card-p w ↦ match_miss card c.loop-left.p run c.loop-left.q _ refl (omega arith) c.loop-left.same c.if-card-p.same w.if-card-p.true w.same-is
+        | else-card-p w ↦ match_keep card c.loop-left.p run c.loop-left.q _ refl (omega arith) c.loop-left.same c.if-card-p.same w.if-card-p.false w.same-is
+      ]
           ∙ c.loop-left.invariant.2,
     )
 
