@@ -33,6 +33,7 @@ hung_end (suc m) c s b j h = absurd (omega arith)
 
 pub hung-step : (m : ℕ) (c c₁ : List ℕ) (s : Shape) (b j made : ℕ) → 0 < m → made ≡ first_free c s → c₁ ≡ hooked c s b j → hung (m - 1) c₁ s made 0 ≡ hung m c s b j
 unfolding hung
+hung-step zero c c₁ s b j made h e f = elim h [ ]
 hung-step (suc m) c c₁ s b j made h e f = rw (sub-one (suc m), e, f)
 
 -- ---- below the stem
@@ -87,6 +88,7 @@ grown_end c s top d (suc m) h = absurd (omega arith)
 pub grown-step : (c c₁ : List ℕ) (s : Shape) (top t d m : ℕ) → 0 < m → t ≡ (grown_one c s top d).top → c₁ ≡ (grown_one c s top d).card →
     grown c₁ s t (d + 1) (m - 1) ≡ grown c s top d m
 unfolding grown
+grown-step c c₁ s top t d zero h e f = elim h [ ]
 grown-step c c₁ s top t d (suc m) h e f = rw (sub-one (suc m), add-one d, e, f)
 
 -- ---- fewer

@@ -14,14 +14,14 @@ use memory::numbers::least;
 use stream::descs::stream;
 
 // The first 6 bytes of an entry: the index of its stream, and the length of its name.
-#[derive(Drop)]
+#[derive(Clone, Copy)]
 pub struct Head {
     pub index: usize,
     pub length: usize,
 }
 
 // Where a name is: the entry's number, its stream's index, where it starts; or that it is not known.
-#[derive(Drop)]
+#[derive(Clone, Copy)]
 pub struct Found {
     pub number: usize,
     pub index: usize,

@@ -11,7 +11,7 @@ use layout::{Desc, Shape};
 use memory::numbers::{least, minus};
 
 // An entry: its stream's index, where it starts, its name's length; or that there is none.
-#[derive(Drop)]
+#[derive(Clone, Copy)]
 pub struct Row {
     pub index: usize,
     pub at: usize,

@@ -11,14 +11,14 @@ use layout::Shape;
 use layout::answers::Refusal;
 
 // Any bytes, checked: the lowest broken rule, or how the card is cut and how many blocks are free.
-#[derive(Drop)]
+#[derive(Clone, Copy)]
 pub enum Examined {
     Damaged(u8),
     Sound(Shape, usize),
 }
 
 // A name, sought on any bytes: why it is not sought, that it is not known, or its stream's index and where its entry starts.
-#[derive(Drop)]
+#[derive(Clone, Copy)]
 pub enum Sought {
     Refused(Refusal),
     Unknown(Shape),

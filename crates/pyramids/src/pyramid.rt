@@ -71,7 +71,7 @@ pub fn needed(f: usize, d: usize) -> usize
 
 // The lowest block above data block `d` that there is, in a pyramid of height `h` over the first `d`: `m` levels above the
 // data, number `q` of its level, with slot `i` for the first of the `m` blocks that are missing below it.
-#[derive(Drop)]
+#[derive(Clone, Copy)]
 pub struct Stem {
     pub m: usize,
     pub q: usize,

@@ -6,7 +6,7 @@ use layout::answers::{Counted, Done, Listed, Refusal, Sized};
 use memory::numbers::wide;
 
 // The number, the rule or the name's length, the count or the size.
-#[derive(Drop)]
+#[derive(Clone, Copy)]
 pub struct Answer {
     pub number: usize,
     pub small: usize,

@@ -9,7 +9,7 @@ use memory::numbers::{least, minus, wide};
 use names::{create, delete, list};
 use whole::{check, format, room};
 
-#[derive(Drop)]
+#[derive(Clone, Copy)]
 pub struct Call {
     pub which: usize,
     pub name: usize,

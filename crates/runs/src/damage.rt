@@ -4,7 +4,7 @@ ghost use Rattle.std.specs.Prelude.{◌≤◌};
 use memory::bytes::{byte, put_byte};
 use memory::numbers::{minus, wide};
 
-#[derive(Drop)]
+#[derive(Clone, Copy)]
 pub struct Damage {
     pub lent: usize,
     pub place: usize,

@@ -6,7 +6,7 @@ use crate::sums::times;
 use memory::numbers::least;
 
 // A run's numbers.
-#[derive(Drop)]
+#[derive(Clone, Copy)]
 pub struct Taste {
     pub kind: usize,
     pub shift: usize,

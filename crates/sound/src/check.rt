@@ -14,7 +14,7 @@ use usage::free::rule7;
 use usage::used::rule6;
 
 // The lowest broken rule; where it is 0 there is none, and so many blocks are free.
-#[derive(Drop)]
+#[derive(Clone, Copy)]
 pub struct Verdict {
     pub rule: usize,
     pub free: usize,

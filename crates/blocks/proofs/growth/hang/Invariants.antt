@@ -1,0 +1,16 @@
+-- `blocks::growth::hang` keeps its promise.
+use borrow.Author.Rules.{rules}
+use mathlib.Core.Path.{◌≡◌, refl, ap, ◌∙◌}
+use Prim.Native.Nat.{◌≤◌}
+use native.Mathlib.Omega.{arith}
+use lib.ListN.{length}
+use Rattle.layout.specs.Blocks.{hung}
+use Rattle.blocks.proofs.Near.{small_same}
+use Rattle.blocks.proofs.Growing.{hung_end, hung-step, length-hooked}
+use Rattle.blocks.proofs.growth.hang.Given as goal
+
+abbrev pub invariant-loop-left : goal.invariant-loop-left
+invariant-loop-left l = (l.i ≤ 4096) × (length l.card ≡ length l.initial.card) × (hung l.left l.card l.s l.from l.i ≡ hung l.m l.initial.card l.s l.b l.j)
+
+abbrev pub decreases-loop-left : goal.decreases-loop-left
+decreases-loop-left l = l.left
