@@ -1,0 +1,14 @@
+-- `laying::gather::gather_stream` keeps its promise.
+use mathlib.Core.Path.{sym, ◌∙◌}
+use Rattle.laying.proofs.Blockwise.{gather_none, gather_done}
+use borrow.Author.Rules.{rules}
+use Rattle.laying.proofs.gather.gather_stream.Goals as goal
+
+pub returns-then-m-eq0 : goal.returns-then-m-eq0
+returns-then-m-eq0 c = gather_none _ _ _ _ _ _ _ _ _ _ _ _ _ c.least-m.ensures c.least.ensures c.minus.ensures c.minus-2.ensures c.if-m-eq0.true
+
+pub returns-then-h-eq0 : goal.returns-then-h-eq0
+returns-then-h-eq0 c = gather_done _ _ _ _ _ _ _ _ _ _ _ _ _ c.least-m.ensures c.least.ensures c.minus.ensures c.minus-2.ensures 0 _ (sym c.if-h-eq0.true ∙ c.height-h.ensures.0) c.gather_top.ensures
+
+pub returns-else-h-eq0 : goal.returns-else-h-eq0
+returns-else-h-eq0 c = gather_done _ _ _ _ _ _ _ _ _ _ _ _ _ c.least-m.ensures c.least.ensures c.minus.ensures c.minus-2.ensures _ _ c.height-h.ensures.0 c.gather_rows.ensures
