@@ -27,6 +27,7 @@ is_all_in {A} p Q (y ∷ xs) h =
 module _ (p : ℕ → Bool) where
   pub all-step : (k left : ℕ) → 0 < left → all_b p (run k left) ≡ both (p k) (all_b p (run (k + 1) (left - 1)))
   unfolding all_b run
+  all-step k zero h = elim h [ ]
   all-step k (suc left) h = rw (sub-one (suc left))
 
   module _ (k left : ℕ) (r : Bool) (more : 0 < left) (f : r ≡ p k) where

@@ -1,0 +1,16 @@
+-- `filing::edits::pull` keeps its promise.
+use borrow.Author.Rules.{rules}
+use mathlib.Core.Path.{◌≡◌, refl, sym, ◌∙◌}
+use Prim.Native.Nat.{◌-◌, ◌≤◌}
+use native.Mathlib.Omega.{arith}
+use lib.ListN.{length}
+use Rattle.blocks.proofs.Near.{small_same}
+use Rattle.filing.specs.Edited.{drawn}
+use Rattle.filing.proofs.Editing.{drawn-step, drawn_stop}
+use Rattle.filing.proofs.edits.pull.Given as goal
+
+abbrev pub invariant-loop-from : goal.invariant-loop-from
+invariant-loop-from l = (l.to ≤ l.from) × (length l.card ≡ length l.initial.card) × (drawn l.t.size l.card l.s l.t l.to l.from ≡ drawn l.t.size l.initial.card l.s l.t l.p l.q)
+
+abbrev pub decreases-loop-from : goal.decreases-loop-from
+decreases-loop-from l = l.t.size - l.from

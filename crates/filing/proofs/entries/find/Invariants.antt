@@ -1,0 +1,20 @@
+-- `filing::entries::find` keeps its promise.
+use borrow.Author.Rules.{rules}
+use mathlib.Core.Path.{◌≡◌, refl, sym, ◌∙◌}
+use lib.ListN.{length}
+use Prim.Native.Nat.{◌-◌, ◌^◌, ◌≤◌, ◌<◌}
+use native.Mathlib.Omega.{arith}
+use Rattle.layout.specs.Streams.{data_of, contents}
+use Rattle.layout.specs.Filing.{entries, entries_from}
+use Rattle.laws.proofs.Laying.{length-contents}
+use Rattle.filing.specs.Located.{located}
+use Rattle.filing.specs.Paged.{Paged}
+use Rattle.filing.proofs.Paging.{page_blank, turned_fits, turned_piece, piece_index, piece_length, piece_named}
+use Rattle.filing.proofs.Finding.{entries-start, find_here, find-next, find_none}
+use Rattle.filing.proofs.entries.find.Given as goal
+
+abbrev pub invariant-loop-at : goal.invariant-loop-at
+invariant-loop-at l = Paged l.page l.from (contents l.card l.s l.t.top (data_of l.s l.t) l.t.size) × (l.n ≤ l.at) × (l.at < 2 ^ 63) × (located (entries_from (length (contents l.card l.s l.t.top (data_of l.s l.t) l.t.size)) (contents l.card l.s l.t.top (data_of l.s l.t) l.t.size) l.at) l.name l.n ≡ located (entries (contents l.card l.s l.t.top (data_of l.s l.t) l.t.size)) l.name 0)
+
+abbrev pub decreases-loop-at : goal.decreases-loop-at
+decreases-loop-at l = l.t.size - l.at

@@ -1,0 +1,7 @@
+-- `filing::pages::turn` keeps its promise.
+use Rattle.filing.proofs.Paging.{page-gathered}
+use borrow.Author.Rules.{rules}
+use Rattle.filing.proofs.pages.turn.Goals as goal
+
+pub returns : goal.returns
+returns c = page-gathered _ _ _ _ c.requires.1.long c.gather_stream.ensures

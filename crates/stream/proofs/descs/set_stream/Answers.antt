@@ -1,0 +1,8 @@
+-- `stream::descs::set_stream` keeps its promise.
+use mathlib.Core.Path.{refl}
+use Rattle.stream.proofs.Fields.{stream-set}
+use borrow.Author.Rules.{rules}
+use Rattle.stream.proofs.descs.set_stream.Goals as goal
+
+pub returns : goal.returns
+returns c = stream-set _ _ _ _ c.args.s _ _ _ c.args.d _ _ c.table-t.ensures c.height-h.ensures.0 c.put_fields.ensures refl c.lay.ensures

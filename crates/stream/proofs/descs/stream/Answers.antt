@@ -1,0 +1,7 @@
+-- `stream::descs::stream` keeps its promise.
+use Rattle.stream.proofs.Fields.{stream-read}
+use borrow.Author.Rules.{rules}
+use Rattle.stream.proofs.descs.stream.Goals as goal
+
+pub returns : goal.returns
+returns c = stream-read _ _ _ _ _ _ c.table.ensures c.gather_stream.ensures c.descriptor.ensures

@@ -1,0 +1,7 @@
+-- `stream::inside::lay_in_stream` keeps its promise.
+use Rattle.stream.proofs.Fields.{stream-laid}
+use borrow.Author.Rules.{rules}
+use Rattle.stream.proofs.inside.lay_in_stream.Goals as goal
+
+pub returns : goal.returns
+returns c = stream-laid _ _ _ _ _ _ _ _ c.stream-t.ensures c.height-h.ensures.0 c.lay.ensures

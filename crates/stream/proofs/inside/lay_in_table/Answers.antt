@@ -1,0 +1,7 @@
+-- `stream::inside::lay_in_table` keeps its promise.
+use Rattle.stream.proofs.Fields.{table-laid}
+use borrow.Author.Rules.{rules}
+use Rattle.stream.proofs.inside.lay_in_table.Goals as goal
+
+pub returns : goal.returns
+returns c = table-laid _ _ _ _ _ _ _ c.table-t.ensures c.height-h.ensures.0 c.lay.ensures
