@@ -65,6 +65,7 @@ module _ (es : List Entry) where
   -- the entry before place `left`, and those before it in its bucket
   among-step : (name : List ℕ) (left : ℕ) → 0 < left → among es left name ≡ pick (same (name_at es (left - 1)) name) true (among es (left - 1) name)
   unfolding among
+  among-step name zero h = elim h [ ]
   among-step name (suc j) h = let a : suc j - 1 ≡ j = omega arith in rw a
 
   module _ (name links : List ℕ) (x left : ℕ) (r : Bool) (more : 0 < left) (low : left ≤ x) (linked : Linked es x links) (own : left ≢ 0 → bucket_of (name_at es (left - 1)) ≡ bucket_of name)

@@ -54,6 +54,7 @@ abbrev Differ : List Entry → Type 0
 Differ es = (i : ℕ) → i < length es → ((j : ℕ) × (j < i) × (name_at es j ≡ name_at es i)) → ⊥
 
 in_name : (es : List Entry) (name : List ℕ) → In name (map (λ e. e.name) es) → (k : ℕ) × (k < length es) × (name_at es k ≡ name)
+in_name [] name x' = elim x' [ ]
 in_name (e ∷ es) name (inl z) = (0, omega arith, sym z)
 in_name (e ∷ es) name (inr i) = let w = in_name es name i in (suc w.0, omega (arith, w.1), w.2)
 

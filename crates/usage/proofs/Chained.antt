@@ -56,10 +56,12 @@ chain_begun c s b left m e f = rw (f, chain-start c s b e) (omega arith, (refl, 
 
 fall_skip : (m : List ℕ) (x l : ℕ) → 1 ≤ l → x ≡ get_or m (l - 1) 0 → x ≡ 0 → falling_in (l - 1) m ≡ falling_in l m
 unfolding falling_in
+fall_skip m x zero h e z = elim h [ ]
 fall_skip m x (suc l) h e z = rw (sub-one (suc l), ← rw (sub-one (suc l)) at e, eq-eqb x 0 z)
 
 fall_take : (m : List ℕ) (x l : ℕ) → 1 ≤ l → x ≡ get_or m (l - 1) 0 → (x ≡ 0 → ⊥) → (l - 1) ∷ falling_in (l - 1) m ≡ falling_in l m
 unfolding falling_in
+fall_take m x zero h e z = elim h [ ]
 fall_take m x (suc l) h e z = rw (sub-one (suc l), ← rw (sub-one (suc l)) at e, ne_eqb x 0 z)
 
 module _ (m : List ℕ) (left x : ℕ) (more : 1 ≤ left) (e : x ≡ get_or m (left - 1) 0) where

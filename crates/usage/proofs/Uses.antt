@@ -32,6 +32,7 @@ stream-used c s t m m' r e p = rw (ne_eqb t.top end8 e) p
 module _ (c : List ℕ) (s : Shape) (tab : List ℕ) where
   used_step : (k n : ℕ) → 0 < n → used_from c s tab k n ≡ blocks_of c s (desc_of tab k) ++ used_from c s tab (k + 1) (n - 1)
   unfolding used_from
+  used_step k zero h = elim h [ ]
   used_step k (suc n) h = rw (sub-one (suc n))
 
   used_end : (k n : ℕ) → n ≤ 0 → used_from c s tab k n ≡ []

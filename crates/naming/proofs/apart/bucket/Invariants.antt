@@ -1,0 +1,16 @@
+-- `naming::apart::bucket` keeps its promise.
+use borrow.Author.Rules.{rules}
+use mathlib.Core.Path.{◌≡◌, refl, ◌∙◌}
+use Prim.Native.Nat.{◌-◌, ◌<◌, ◌≤◌}
+use native.Mathlib.Nat.{mod-lt}
+use native.Mathlib.Omega.{arith}
+use lib.ListN.{length, drop}
+use Rattle.naming.specs.Buckets.{hash_from}
+use Rattle.naming.proofs.Buckets.{hash_turn, hash_done}
+use Rattle.naming.proofs.apart.bucket.Given as goal
+
+abbrev pub invariant-loop-i : goal.invariant-loop-i
+invariant-loop-i l = (l.h < 65536) × (l.i ≤ length l.name) × (hash_from l.h (drop l.i l.name) ≡ hash_from 0 l.name)
+
+abbrev pub decreases-loop-i : goal.decreases-loop-i
+decreases-loop-i l = length l.name - l.i

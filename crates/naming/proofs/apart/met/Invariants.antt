@@ -1,0 +1,17 @@
+-- `naming::apart::met` keeps its promise.
+use borrow.Author.Rules.{rules}
+use mathlib.Core.Path.{◌≡◌, refl}
+use mathlib.Core.Logic.{◌≢◌}
+use Prim.Native.Nat.{◌≤◌, ◌-◌}
+use native.Mathlib.Omega.{arith}
+use Rattle.layout.specs.Filing.{entries}
+use Rattle.naming.specs.Buckets.{bucket_of, name_at, among}
+use Rattle.naming.specs.Rooted.{bytes_of}
+use Rattle.naming.proofs.Buckets.{met_here, met_less, met_own, met_next, met_none, met-same}
+use Rattle.naming.proofs.apart.met.Given as goal
+
+abbrev pub invariant-loop-left : goal.invariant-loop-left
+invariant-loop-left l = (l.left ≤ l.x) × (l.left ≢ 0 → bucket_of (name_at (entries (bytes_of l.card l.s l.t)) (l.left - 1)) ≡ bucket_of l.name) × (among (entries (bytes_of l.card l.s l.t)) l.left l.name ≡ among (entries (bytes_of l.card l.s l.t)) l.x l.name)
+
+abbrev pub decreases-loop-left : goal.decreases-loop-left
+decreases-loop-left l = l.left

@@ -1,0 +1,14 @@
+-- `usage::free::mark_chain` keeps its promise.
+use borrow.Author.Rules.{rules}
+use borrow.Author.Tests.{not-true, not-false}
+use mathlib.Core.Path.{◌≡◌, refl}
+use native.Mathlib.Omega.{arith}
+use lib.ListN.{length}
+use Rattle.usage.proofs.Chained.{Along, chain_begun, chain-ends, chain_out, chain-turn, chain_stops}
+use Rattle.usage.proofs.free.mark_chain.Given as goal
+
+abbrev pub invariant-loop-left : goal.invariant-loop-left
+invariant-loop-left l = (length l.marks ≡ length l.initial.marks) × Along l.card l.s l.left l.b l.marks l.initial.marks
+
+abbrev pub decreases-loop-left : goal.decreases-loop-left
+decreases-loop-left l = l.left
