@@ -68,6 +68,7 @@ module _ (c : List ℕ) (s : Shape) (w : Core c s) where
   frees = core_frees c s w
 
   none_on : (o : ℕ) (xs : List ℕ) → Links (num 8 tb) o xs → o ≡ end8 → (x : ℕ) → In x xs → ⊥
+  none_on o [] l e x i = elim i [ ]
   none_on o (y ∷ xs) l e x i = l.1 e
 
   -- a chain with no link: all live
