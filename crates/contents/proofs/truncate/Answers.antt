@@ -1,4 +1,5 @@
 -- `contents::truncate` keeps its promise.
+use mathlib.Core.Path.{refl}
 use borrow.Author.Rules.{rules}
 use native.Mathlib.Omega.{arith}
 use Rattle.layout.specs.Promises.{Truncates}
@@ -9,24 +10,24 @@ use Rattle.contents.proofs.Named.{refused_past, truncate-done}
 use Rattle.contents.proofs.truncate.Goals as goal
 
 pub size-size-requires : goal.size-size-requires
-size-size-requires c = asked (known_of _ _ c.seek.ensures c.shape-1.given.1)
+size-size-requires c = asked (known_of _ _ c.in-Known.ensures refl)
 
 pub returns-then-size-n : goal.returns-then-size-n
 unfolding Truncates truncate
-returns-then-size-n c = refused_past (known_of _ _ c.seek.ensures c.shape-1.given.1) _ _ c.size-size.ensures c.if-size-n.true _ _ _
+returns-then-size-n c = refused_past (known_of _ _ c.in-Known.ensures refl) _ _ c.size-size.ensures c.if-size-n.true _ _ _
 
 pub truncate-requires : goal.truncate-requires
-truncate-requires c = let n = known_of _ _ c.seek.ensures c.shape-1.given.1 in
+truncate-requires c = let n = known_of _ _ c.in-Known.ensures refl in
     (small_of n.passed, index-low n, omega (arith, c.size-size.ensures, c.if-size-n.false, size_low n))
 
 pub returns-in-Refused : goal.returns-in-Refused
 unfolding Truncates truncate
-returns-in-Refused c = refused-first _ _ c.seek.ensures _ _ _ c.why-1.given.1
+returns-in-Refused c = refused-first _ _ c.in-Refused.ensures _ _ _ refl
 
 pub returns-in-Unknown : goal.returns-in-Unknown
 unfolding Truncates truncate
-returns-in-Unknown c = refused_unknown _ _ c.seek.ensures _ _ _ c.enum_told-1.given.1
+returns-in-Unknown c = refused_unknown _ _ c.in-Unknown.ensures _ _ _ refl
 
 pub returns-else-size-n : goal.returns-else-size-n
 unfolding Truncates
-returns-else-size-n c = truncate-done (known_of _ _ c.seek.ensures c.shape-1.given.1) _ _ c.size-size.ensures c.if-size-n.false _ c.truncate.ensures
+returns-else-size-n c = truncate-done (known_of _ _ c.in-Known.ensures refl) _ _ c.size-size.ensures c.if-size-n.false _ c.truncate.ensures
