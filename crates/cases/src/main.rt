@@ -1,6 +1,7 @@
 // Damaged and scrambled cards, made as docs/CASES.md describes, each put to the check. For each card a line: the clause that it
 // breaks, its number, the rule that the check gives, and the sum of its bytes. What it must write is made by second/.
 #![tactic(auto)]
+
 mod chain;
 mod descriptors;
 mod entries;
@@ -15,6 +16,7 @@ ghost use Rattle.std.specs.Prelude.{◌<◌, ◌≤◌};
 
 use memory::numbers::{least, minus, wide};
 use samples::cells::{LENGTH, get};
+use std::io;
 
 // What a clause changes in the plan.
 fn change(plan: &mut [u8], rule: usize, clause: usize) {
@@ -55,22 +57,27 @@ fn sum(card: &[u8]) -> usize
 }
 
 // The rule that the check gives, and the sum.
-fn answer(card: &[u8]) {
-    let v = sound::check::check(card);
-    io::print_decimal(1, v.rule as u64);
-    io::write_all(1, b" ");
-    io::print_decimal(1, sum(card) as u64);
-    io::write_all(1, b"\n");
+fn answer(rt: &impl Print, card: &[u8]) -> io::Result<()> {
+    let rule = sound::check::check(card).rule;
+    let total = sum(card);
+    println!(rt; "{rule} {total}")
 }
 
 // The same of the first `length` bytes.
-fn answer_of(card: &[u8], length: usize) {
+fn answer_of(rt: &impl Print, card: &[u8], length: usize) -> io::Result<()> {
     let n = least(length, card.len());
-    answer(&card[..n]);
+    answer(rt, &card[..n])
 }
 
 // Makes card `i` of a clause, and writes its line.
-fn one(plan: &mut [u8], card: &mut [u8], rule: usize, clause: usize, i: usize)
+fn one(
+    rt: &impl Print,
+    plan: &mut [u8],
+    card: &mut [u8],
+    rule: usize,
+    clause: usize,
+    i: usize,
+) -> io::Result<()>
     requires { (rule ≤ 8) × (clause ≤ 99) }
 {
     samples::plan::draw(plan, 100 * rule + clause, i);
@@ -78,46 +85,60 @@ fn one(plan: &mut [u8], card: &mut [u8], rule: usize, clause: usize, i: usize)
     samples::blocks::give(plan);
     samples::lay::lay(plan, card);
     damage(plan, card, rule, clause);
-    words::say_name(rule, clause);
-    io::print_decimal(1, i as u64);
-    io::write_all(1, b" ");
-    answer_of(&*card, get(&*plan, LENGTH));
+    words::say_name(rt, rule, clause)?;
+    print!(rt; "{i} ")?;
+    answer_of(rt, &*card, get(&*plan, LENGTH))
 }
 
 // The `n` cards of a clause.
-fn cards(plan: &mut [u8], card: &mut [u8], rule: usize, clause: usize, n: usize)
+fn cards(
+    rt: &impl Print,
+    plan: &mut [u8],
+    card: &mut [u8],
+    rule: usize,
+    clause: usize,
+    n: usize,
+) -> io::Result<()>
     requires { (rule ≤ 8) × (clause ≤ 99) }
 {
     let mut left = n;
     while 0 < left {
-        one(plan, card, rule, clause, minus(n, left));
+        one(rt, plan, card, rule, clause, minus(n, left))?;
         left -= 1;
     }
+    Ok(())
 }
 
 // The `n` clauses of a rule.
-fn clauses(plan: &mut [u8], card: &mut [u8], rule: usize, n: usize)
+fn clauses(
+    rt: &impl Print,
+    plan: &mut [u8],
+    card: &mut [u8],
+    rule: usize,
+    n: usize,
+) -> io::Result<()>
     requires { (rule ≤ 8) × (n ≤ 100) }
 {
     let each = if rule == 0 { 70 } else { 21 };
     let mut left = n;
     while 0 < left {
         let clause = minus(n, left);
-        cards(plan, card, rule, clause, each);
+        cards(rt, plan, card, rule, clause, each)?;
         left -= 1;
     }
+    Ok(())
 }
 
-fn main() {
+fn main(rt: HostRuntime) -> io::Result<()> {
     let mut plan = [0u8; 26000];
     let mut card = [0u8; 270000];
-    clauses(&mut plan, &mut card, 0, 11);
-    clauses(&mut plan, &mut card, 1, 1);
-    clauses(&mut plan, &mut card, 2, 18);
-    clauses(&mut plan, &mut card, 3, 10);
-    clauses(&mut plan, &mut card, 4, 18);
-    clauses(&mut plan, &mut card, 5, 23);
-    clauses(&mut plan, &mut card, 6, 11);
-    clauses(&mut plan, &mut card, 7, 19);
-    clauses(&mut plan, &mut card, 8, 20);
+    clauses(&rt, &mut plan, &mut card, 0, 11)?;
+    clauses(&rt, &mut plan, &mut card, 1, 1)?;
+    clauses(&rt, &mut plan, &mut card, 2, 18)?;
+    clauses(&rt, &mut plan, &mut card, 3, 10)?;
+    clauses(&rt, &mut plan, &mut card, 4, 18)?;
+    clauses(&rt, &mut plan, &mut card, 5, 23)?;
+    clauses(&rt, &mut plan, &mut card, 6, 11)?;
+    clauses(&rt, &mut plan, &mut card, 7, 19)?;
+    clauses(&rt, &mut plan, &mut card, 8, 20)
 }

@@ -7,6 +7,7 @@ use contents::{read, size, truncate, write};
 use memory::bytes::byte;
 use memory::numbers::{least, minus, wide};
 use names::{create, delete, list};
+use std::io;
 use whole::{check, format, room};
 
 #[derive(Clone, Copy)]
@@ -75,30 +76,34 @@ fn sum(before: usize, bytes: &[u8]) -> usize
 }
 
 // The line of a call.
-fn say(which: usize, a: Answer, sum: usize) {
-    io::print_decimal(1, which as u64);
-    io::write_all(1, b" ");
-    io::print_decimal(1, a.number as u64);
-    io::write_all(1, b" ");
-    io::print_decimal(1, a.small as u64);
-    io::write_all(1, b" ");
-    io::print_decimal(1, a.large as u64);
-    io::write_all(1, b" ");
-    io::print_decimal(1, sum as u64);
-    io::write_all(1, b"\n");
+fn say(rt: &impl Print, which: usize, a: Answer, sum: usize) -> io::Result<()> {
+    println!(rt; "{which} {} {} {} {sum}", a.number, a.small, a.large)
 }
 
 // The call, and its line.
-pub fn shown(card: &mut [u8], tray: &mut [u8], text: &[u8], c: Call) -> Answer {
+pub fn shown(
+    rt: &impl Print,
+    card: &mut [u8],
+    tray: &mut [u8],
+    text: &[u8],
+    c: Call,
+) -> io::Result<Answer> {
     let a = answered(card, tray, text, c);
-    say(c.which, a, sum(sum(1, &*card), &*tray));
-    a
+    say(rt, c.which, a, sum(sum(1, &*card), &*tray))?;
+    Ok(a)
 }
 
 // The same on the card's first `lent` bytes.
-pub fn shown_on(card: &mut [u8], lent: usize, tray: &mut [u8], text: &[u8], c: Call) -> Answer {
+pub fn shown_on(
+    rt: &impl Print,
+    card: &mut [u8],
+    lent: usize,
+    tray: &mut [u8],
+    text: &[u8],
+    c: Call,
+) -> io::Result<Answer> {
     let n = least(lent, card.len());
-    shown(&mut card[..n], tray, text, c)
+    shown(rt, &mut card[..n], tray, text, c)
 }
 
 // A call whose other numbers are 0.

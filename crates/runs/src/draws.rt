@@ -6,6 +6,7 @@ use crate::dice::below;
 use crate::kinds::{Taste, bytes_of};
 use crate::sums::times;
 use memory::numbers::{least, minus};
+use std::io;
 
 // The name of a call.
 pub fn draw_name(dice: &mut [usize; 1], pool: usize) -> usize {
@@ -31,6 +32,7 @@ fn near(dice: &mut [usize; 1], v: usize, z: usize) -> usize
 
 // The place of a call; the stream's size is asked first where it matters. No size is above 2^24.
 pub fn draw_place(
+    rt: &impl Print,
     dice: &mut [usize; 1],
     card: &mut [u8],
     tray: &mut [u8],
@@ -38,14 +40,14 @@ pub fn draw_place(
     which: usize,
     name: usize,
     t: Taste,
-) -> usize {
+) -> io::Result<usize> {
     match which {
         4 | 5 | 6 => {
-            let a = shown(card, tray, text, plain(8, name, 0));
-            near(dice, least(a.large, 16777216), bytes_of(t.shift))
+            let a = shown(rt, card, tray, text, plain(8, name, 0))?;
+            Ok(near(dice, least(a.large, 16777216), bytes_of(t.shift)))
         }
-        9 => below(dice, least(t.pool, 510) + 2),
-        _ => 0,
+        9 => Ok(below(dice, least(t.pool, 510) + 2)),
+        _ => Ok(0),
     }
 }
 
@@ -61,36 +63,38 @@ fn tray_length(dice: &mut [usize; 1]) -> usize {
 
 // How much is written: by the kind, and at the edge by what is free.
 fn write_length(
+    rt: &impl Print,
     dice: &mut [usize; 1],
     card: &mut [u8],
     tray: &mut [u8],
     text: &[u8],
     t: Taste,
-) -> usize {
+) -> io::Result<usize> {
     if t.kind == 2 {
-        let q = least(shown(card, tray, text, plain(2, 0, 0)).large, 4096);
+        let q = least(shown(rt, card, tray, text, plain(2, 0, 0))?.large, 4096);
         let blocks = below(dice, q + 3);
         let more = below(dice, 4);
-        return minus(times(bytes_of(t.shift), blocks) + more, 2);
+        return Ok(minus(times(bytes_of(t.shift), blocks) + more, 2));
     }
     if below(dice, 8) == 0 {
-        return 0;
+        return Ok(0);
     }
-    below(dice, least(t.longest, 130000) + 1)
+    Ok(below(dice, least(t.longest, 130000) + 1))
 }
 
 // How long a call's data or tray is.
 pub fn draw_length(
+    rt: &impl Print,
     dice: &mut [usize; 1],
     card: &mut [u8],
     tray: &mut [u8],
     text: &[u8],
     which: usize,
     t: Taste,
-) -> usize {
+) -> io::Result<usize> {
     match which {
-        4 => write_length(dice, card, tray, text, t),
-        5 | 9 => tray_length(dice),
-        _ => 0,
+        4 => write_length(rt, dice, card, tray, text, t),
+        5 | 9 => Ok(tray_length(dice)),
+        _ => Ok(0),
     }
 }

@@ -6,6 +6,7 @@ use crate::damage::{Damage, add, spoilt};
 use crate::making::{begin, write_ones};
 use memory::numbers::{least, minus};
 use memory::runs::copy;
+use std::io;
 
 // How many turns a call has: its names times its places times its lengths.
 fn turns_of(which: usize) -> usize {
@@ -82,6 +83,7 @@ fn turn(which: usize, i: usize) -> Call {
 
 // The first `n` turns of a call, each on the card as it was kept, damaged.
 fn turns(
+    rt: &impl Print,
     card: &mut [u8],
     kept: &[u8],
     tray: &mut [u8],
@@ -89,52 +91,79 @@ fn turns(
     d: Damage,
     which: usize,
     n: usize,
-) {
+) -> io::Result<()> {
     let mut left = n;
     while 0 < left {
         copy(card, 0, kept, 0, 18007);
         add(card, d.place, 1);
-        shown_on(card, d.lent, tray, text, turn(which, minus(n, left)));
+        shown_on(rt, card, d.lent, tray, text, turn(which, minus(n, left)))?;
         left -= 1;
     }
+    Ok(())
 }
 
 // A call with all its arguments.
 fn all_turns(
+    rt: &impl Print,
     card: &mut [u8],
     kept: &[u8],
     tray: &mut [u8],
     text: &[u8],
     number: usize,
     which: usize,
-) {
+) -> io::Result<()> {
     let d = spoilt(number, card.len(), 64, 0);
-    turns(card, kept, tray, text, d, which, turns_of(which));
+    turns(rt, card, kept, tray, text, d, which, turns_of(which))
 }
 
 // All ten calls.
-fn ten(card: &mut [u8], kept: &[u8], tray: &mut [u8], text: &[u8], number: usize) {
+fn ten(
+    rt: &impl Print,
+    card: &mut [u8],
+    kept: &[u8],
+    tray: &mut [u8],
+    text: &[u8],
+    number: usize,
+) -> io::Result<()> {
     let mut left: usize = 10;
     while 0 < left {
-        all_turns(card, kept, tray, text, number, minus(10, left));
+        all_turns(rt, card, kept, tray, text, number, minus(10, left))?;
         left -= 1;
     }
+    Ok(())
 }
 
 // A damage, where card `c` is given it.
-fn damaged(card: &mut [u8], kept: &[u8], tray: &mut [u8], text: &[u8], c: usize, number: usize) {
+fn damaged(
+    rt: &impl Print,
+    card: &mut [u8],
+    kept: &[u8],
+    tray: &mut [u8],
+    text: &[u8],
+    c: usize,
+    number: usize,
+) -> io::Result<()> {
     if c == 1 || number == 0 || number == least(c, 4) + 4 {
-        ten(card, kept, tray, text, number);
+        ten(rt, card, kept, tray, text, number)?;
     }
+    Ok(())
 }
 
 // All of them.
-fn damages(card: &mut [u8], kept: &[u8], tray: &mut [u8], text: &[u8], c: usize) {
+fn damages(
+    rt: &impl Print,
+    card: &mut [u8],
+    kept: &[u8],
+    tray: &mut [u8],
+    text: &[u8],
+    c: usize,
+) -> io::Result<()> {
     let mut left: usize = 9;
     while 0 < left {
-        damaged(card, kept, tray, text, c, minus(9, left));
+        damaged(rt, card, kept, tray, text, c, minus(9, left))?;
         left -= 1;
     }
+    Ok(())
 }
 
 // How long card `c` is, and how many names it has, and how many of them with one byte.
@@ -165,24 +194,45 @@ fn ones_of(c: usize) -> usize {
 }
 
 // Card `c` is made and kept; then all is tried on it.
-fn tried(card: &mut [u8], kept: &mut [u8], tray: &mut [u8], text: &[u8], c: usize) {
-    begin(card, tray, text, 6, made_of(c));
-    write_ones(card, tray, text, ones_of(c));
+fn tried(
+    rt: &impl Print,
+    card: &mut [u8],
+    kept: &mut [u8],
+    tray: &mut [u8],
+    text: &[u8],
+    c: usize,
+) -> io::Result<()> {
+    begin(rt, card, tray, text, 6, made_of(c))?;
+    write_ones(rt, card, tray, text, ones_of(c))?;
     copy(kept, 0, &*card, 0, 18007);
-    damages(card, &*kept, tray, text, c);
+    damages(rt, card, &*kept, tray, text, c)
 }
 
 // The same on the first bytes of the row.
-fn situation(row: &mut [u8], kept: &mut [u8], tray: &mut [u8], text: &[u8], c: usize) {
+fn situation(
+    rt: &impl Print,
+    row: &mut [u8],
+    kept: &mut [u8],
+    tray: &mut [u8],
+    text: &[u8],
+    c: usize,
+) -> io::Result<()> {
     let n = least(length_of(c), row.len());
-    tried(&mut row[..n], kept, tray, text, c);
+    tried(rt, &mut row[..n], kept, tray, text, c)
 }
 
 // All five.
-pub fn situations(row: &mut [u8], kept: &mut [u8], tray: &mut [u8], text: &[u8]) {
+pub fn situations(
+    rt: &impl Print,
+    row: &mut [u8],
+    kept: &mut [u8],
+    tray: &mut [u8],
+    text: &[u8],
+) -> io::Result<()> {
     let mut left: usize = 5;
     while 0 < left {
-        situation(row, kept, tray, text, minus(5, left));
+        situation(rt, row, kept, tray, text, minus(5, left))?;
         left -= 1;
     }
+    Ok(())
 }
