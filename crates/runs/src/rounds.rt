@@ -31,7 +31,8 @@ fn spoilt_call(
         length: length,
         from: from,
     };
-    shown_on(rt, card, lent, tray, text, c)
+    shown_on(rt, card, lent, tray, text, c)?;
+    Ok(())
 }
 
 // All ten.

@@ -49,7 +49,8 @@ fn step(
         length: length,
         from: from,
     };
-    shown(rt, card, tray, text, c)
+    shown(rt, card, tray, text, c)?;
+    Ok(())
 }
 
 // All steps of a run.

@@ -1,0 +1,12 @@
+-- `runs::situations::damages` keeps its promise and ends: its counter falls to 0.
+use Prim.Native.Nat.{◌≤◌}
+use borrow.Author.Rules.{rules}
+use lib.ListN.{length}
+use mathlib.Core.Path.{◌≡◌}
+use Rattle.runs.proofs.situations.damages.Given as goal
+
+abbrev pub invariant-loop-left : goal.invariant-loop-left
+invariant-loop-left g l = (l.left ≤ l.initial.left) × (length l.card ≡ length l.initial.card) × (length l.tray ≡ length l.initial.tray)
+
+abbrev pub decreases-loop-left : goal.decreases-loop-left
+decreases-loop-left g l = l.left
