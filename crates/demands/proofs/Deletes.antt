@@ -6,7 +6,7 @@ use Prim.Native.Nat.{ℕ, suc, ◌+◌, ◌≤◌, ◌<◌}
 use native.Mathlib.Omega.{arith}
 use lib.ListN.{length, get_or, take, drop, length-drop, length-map, get_or-map}
 use lib.Seq.{split_at}
-use Rattle.layout.specs.Bytes.{bytes, over}
+use Rattle.layout.specs.Bytes.{over}
 use Rattle.layout.specs.Blocks.{chain, rising}
 use Rattle.layout.specs.Streams.{table_bytes, stream, stream_bytes, in_stream, shortened, table_blocks, stream_blocks}
 use Rattle.layout.specs.Filing.{Entry, entries, entries_of, look_in, nothing, without_entry, pulled}

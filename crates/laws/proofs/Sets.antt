@@ -3,10 +3,10 @@ use mathlib.Core.Path.{◌≡◌, refl, ap}
 use mathlib.Core.Logic.{◌⊎◌, inl, inr}
 use mathlib.Core.Bool.{Bool, true, false}
 use mathlib.Core.List.{List, [], ◌∷◌, ◌++◌}
-use Prim.Native.Nat.{ℕ, ◌+◌, ◌≤◌}
+use Prim.Native.Nat.{ℕ, ◌≤◌}
 use native.Mathlib.Omega.{arith}
 use lib.ListN.{length, length-append}
-use Rattle.layout.specs.Bytes.{both, holds}
+use Rattle.layout.specs.Bytes.{holds}
 use Rattle.layout.specs.Sound.{same_set}
 use Rattle.laws.proofs.Lists.{In, Distinct, holds_in, holds_read}
 use Rattle.laws.proofs.Joins.{in_split, without}

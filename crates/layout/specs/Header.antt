@@ -1,5 +1,5 @@
 -- The header: its fixed values and their places, and the shape that it gives a card. Only here do the places stand as numbers.
-use Rattle.std.specs.Prelude.{Bool, ℕ, ◌+◌, ◌-◌, ◌/◌, ◌%◌, ◌^◌, List, [], ◌∷◌, ◌++◌, length, get_or, leb, eqb}
+use Rattle.std.specs.Prelude.{Bool, ℕ, ◌-◌, ◌/◌, ◌%◌, ◌^◌, List, [], ◌∷◌, ◌++◌, length, get_or, leb, eqb}
 use Rattle.layout.specs.Limits.{least_shift, most_shift, most_blocks}
 use Rattle.layout.specs.Bytes.{pick, both, bytes, matches, end8}
 use Rattle.layout.specs.declared.Shape.{Shape}

@@ -1,10 +1,8 @@
 -- `blocks::chain::enough` keeps its promise.
-use borrow.Author.Rules.{rules}
-use mathlib.Core.Path.{◌≡◌, ◌∙◌}
+use mathlib.Core.Path.{◌≡◌}
 use lib.ListN.{length}
 use lib.Dec.{leb}
 use Rattle.layout.specs.Blocks.{walk}
-use Rattle.blocks.proofs.Links.{enough-start, enough-step, enough_stop, enough_end}
 use Rattle.blocks.proofs.chain.enough.Given as goal
 
 abbrev pub invariant-loop-left : goal.invariant-loop-left

@@ -1,6 +1,5 @@
 -- `blocks::chain::next` keeps its promise.
 use Rattle.blocks.proofs.Near.{next-slot}
-use borrow.Author.Rules.{rules}
 use Rattle.blocks.proofs.chain.next.Goals as goal
 
 pub returns : goal.returns

@@ -1,11 +1,7 @@
 -- `blocks::growth::grow` keeps its promise.
 use borrow.Author.Rules.{rules}
-use mathlib.Core.Path.{◌≡◌, refl, ap, ◌∙◌}
-use Prim.Native.Nat.{◌+◌, ◌/◌}
+use mathlib.Core.Path.{refl, ap, ◌∙◌}
 use native.Mathlib.Omega.{arith}
-use lib.ListN.{length}
-use Rattle.layout.specs.Pyramid.{height}
-use Rattle.layout.specs.Blocks.{grown}
 use Rattle.blocks.proofs.Near.{small_same, fan_two}
 use Rattle.blocks.proofs.Growing.{grown_end, grown-step}
 use Rattle.blocks.proofs.growth.grow.Goals as goal

@@ -1,10 +1,7 @@
 -- `blocks::growth::hang` keeps its promise.
-use borrow.Author.Rules.{rules}
-use mathlib.Core.Path.{◌≡◌, refl, ap, ◌∙◌}
-use Prim.Native.Nat.{◌≤◌}
+use mathlib.Core.Path.{refl, ap, ◌∙◌}
 use native.Mathlib.Omega.{arith}
 use lib.ListN.{length}
-use Rattle.layout.specs.Blocks.{hung}
 use Rattle.blocks.proofs.Near.{small_same}
 use Rattle.blocks.proofs.Growing.{hung_end, hung-step, length-hooked}
 use Rattle.blocks.proofs.growth.hang.Goals as goal

@@ -1,12 +1,8 @@
 -- `blocks::growth::hang` keeps its promise.
-use borrow.Author.Rules.{rules}
-use mathlib.Core.Path.{◌≡◌, refl, ap, ◌∙◌}
+use mathlib.Core.Path.{◌≡◌}
 use Prim.Native.Nat.{◌≤◌}
-use native.Mathlib.Omega.{arith}
 use lib.ListN.{length}
 use Rattle.layout.specs.Blocks.{hung}
-use Rattle.blocks.proofs.Near.{small_same}
-use Rattle.blocks.proofs.Growing.{hung_end, hung-step, length-hooked}
 use Rattle.blocks.proofs.growth.hang.Given as goal
 
 abbrev pub invariant-loop-left : goal.invariant-loop-left

@@ -1,6 +1,5 @@
 -- `blocks::growth::hook` keeps its promise.
 use Rattle.blocks.proofs.Growing.{hooked_is}
-use borrow.Author.Rules.{rules}
 use Rattle.blocks.proofs.growth.hook.Goals as goal
 
 pub returns : goal.returns

@@ -1,7 +1,6 @@
 -- `blocks::growth::lowered_top` keeps its promise.
 use Rattle.blocks.proofs.Near.{fan_two}
 use Rattle.blocks.proofs.Growing.{lowered_none, lowered_some}
-use borrow.Author.Rules.{rules}
 use Rattle.blocks.proofs.growth.lowered_top.Goals as goal
 
 pub returns-then-d2-eq0 : goal.returns-then-d2-eq0

@@ -1,6 +1,5 @@
 -- `blocks::growth::raise` keeps its promise.
 use mathlib.Core.Path.{◌∙◌}
-use borrow.Author.Rules.{rules}
 use Rattle.blocks.proofs.growth.raise.Goals as goal
 
 pub returns : goal.returns

@@ -2,7 +2,6 @@
 use mathlib.Core.Path.{◌∙◌}
 use native.Mathlib.Omega.{arith}
 use Rattle.blocks.proofs.Near.{place_fits, num-near}
-use borrow.Author.Rules.{rules}
 use Rattle.blocks.proofs.places.index.Goals as goal
 
 pub overflow_mul-least : goal.overflow_mul-least

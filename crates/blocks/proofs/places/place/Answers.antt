@@ -2,7 +2,6 @@
 use mathlib.Core.Path.{refl}
 use native.Mathlib.Omega.{arith}
 use Rattle.blocks.proofs.Near.{place_fits}
-use borrow.Author.Rules.{rules}
 use Rattle.blocks.proofs.places.place.Goals as goal
 
 pub overflow_mul-result : goal.overflow_mul-result

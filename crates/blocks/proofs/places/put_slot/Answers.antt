@@ -1,7 +1,6 @@
 -- `blocks::places::put_slot` keeps its promise.
 use mathlib.Core.Path.{◌∙◌}
 use Rattle.blocks.proofs.Near.{put-near}
-use borrow.Author.Rules.{rules}
 use Rattle.blocks.proofs.places.put_slot.Goals as goal
 
 pub returns : goal.returns

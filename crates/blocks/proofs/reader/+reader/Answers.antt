@@ -4,7 +4,6 @@ use native.Mathlib.Omega.{arith}
 use native.Mathlib.Nat.{pos_of_ne-zero}
 use Rattle.blocks.proofs.Near.{fan_pos, fan_two, slot-near}
 use Rattle.blocks.proofs.Descent.{node-top, node_down}
-use Prim.Native.Nat.{ℕ, ◌<◌}
 use Rattle.blocks.proofs.reader.+reader.Goals as goal
 
 pub returns-then-h-eq0 : goal.returns-then-h-eq0

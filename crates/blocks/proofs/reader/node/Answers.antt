@@ -1,7 +1,6 @@
 -- `blocks::reader::node` keeps its promise.
 use mathlib.Core.Path.{◌∙◌}
 use Rattle.blocks.proofs.Descent.{node-plain}
-use borrow.Author.Rules.{rules}
 use Rattle.blocks.proofs.reader.node.Goals as goal
 
 pub returns : goal.returns

@@ -1,7 +1,6 @@
 -- `filing::edits::append` keeps its promise.
 use mathlib.Core.Path.{refl}
 use Rattle.filing.proofs.Editing.{appended}
-use borrow.Author.Rules.{rules}
 use Rattle.filing.proofs.edits.append.Goals as goal
 
 pub returns : goal.returns

@@ -1,11 +1,7 @@
 -- `filing::edits::pull` keeps its promise.
-use borrow.Author.Rules.{rules}
-use mathlib.Core.Path.{◌≡◌, refl, sym, ◌∙◌}
-use Prim.Native.Nat.{◌-◌, ◌≤◌}
+use mathlib.Core.Path.{refl, sym, ◌∙◌}
 use native.Mathlib.Omega.{arith}
-use lib.ListN.{length}
 use Rattle.blocks.proofs.Near.{small_same}
-use Rattle.filing.specs.Edited.{drawn}
 use Rattle.filing.proofs.Editing.{drawn-step, drawn_stop}
 use Rattle.filing.proofs.edits.pull.Goals as goal
 

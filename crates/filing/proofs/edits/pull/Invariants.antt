@@ -1,12 +1,8 @@
 -- `filing::edits::pull` keeps its promise.
-use borrow.Author.Rules.{rules}
-use mathlib.Core.Path.{◌≡◌, refl, sym, ◌∙◌}
+use mathlib.Core.Path.{◌≡◌}
 use Prim.Native.Nat.{◌-◌, ◌≤◌}
-use native.Mathlib.Omega.{arith}
 use lib.ListN.{length}
-use Rattle.blocks.proofs.Near.{small_same}
 use Rattle.filing.specs.Edited.{drawn}
-use Rattle.filing.proofs.Editing.{drawn-step, drawn_stop}
 use Rattle.filing.proofs.edits.pull.Given as goal
 
 abbrev pub invariant-loop-from : goal.invariant-loop-from

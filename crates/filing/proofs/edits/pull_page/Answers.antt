@@ -1,6 +1,5 @@
 -- `filing::edits::pull_page` keeps its promise.
 use Rattle.filing.proofs.Editing.{page-pulled}
-use borrow.Author.Rules.{rules}
 use Rattle.filing.proofs.edits.pull_page.Goals as goal
 
 pub returns : goal.returns

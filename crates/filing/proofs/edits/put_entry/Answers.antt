@@ -1,6 +1,5 @@
 -- `filing::edits::put_entry` keeps its promise.
 use Rattle.filing.proofs.Editing.{entry-put}
-use borrow.Author.Rules.{rules}
 use Rattle.filing.proofs.edits.put_entry.Goals as goal
 
 pub returns : goal.returns

@@ -2,7 +2,6 @@
 use native.Mathlib.Omega.{arith}
 use Rattle.blocks.proofs.Near.{small_same}
 use Rattle.filing.proofs.Editing.{taken_out, size_fits}
-use borrow.Author.Rules.{rules}
 use Rattle.filing.proofs.edits.remove.Goals as goal
 
 pub pull-requires : goal.pull-requires

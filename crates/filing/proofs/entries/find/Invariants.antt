@@ -1,16 +1,11 @@
 -- `filing::entries::find` keeps its promise.
-use borrow.Author.Rules.{rules}
-use mathlib.Core.Path.{◌≡◌, refl, sym, ◌∙◌}
+use mathlib.Core.Path.{◌≡◌}
 use lib.ListN.{length}
 use Prim.Native.Nat.{◌-◌, ◌^◌, ◌≤◌, ◌<◌}
-use native.Mathlib.Omega.{arith}
 use Rattle.layout.specs.Streams.{data_of, contents}
 use Rattle.layout.specs.Filing.{entries, entries_from}
-use Rattle.laws.proofs.Laying.{length-contents}
 use Rattle.filing.specs.Located.{located}
 use Rattle.filing.specs.Paged.{Paged}
-use Rattle.filing.proofs.Paging.{page_blank, turned_fits, turned_piece, piece_index, piece_length, piece_named}
-use Rattle.filing.proofs.Finding.{entries-start, find_here, find-next, find_none}
 use Rattle.filing.proofs.entries.find.Given as goal
 
 abbrev pub invariant-loop-at : goal.invariant-loop-at

@@ -1,7 +1,6 @@
 -- `filing::entries::look_up` keeps its promise.
 use Rattle.filing.proofs.Editing.{size_fits}
 use Rattle.filing.proofs.Finding.{looked_up}
-use borrow.Author.Rules.{rules}
 use Rattle.filing.proofs.entries.look_up.Goals as goal
 
 pub find-requires : goal.find-requires

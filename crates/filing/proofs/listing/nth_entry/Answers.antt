@@ -1,14 +1,8 @@
 -- `filing::listing::nth_entry` keeps its promise.
-use borrow.Author.Rules.{rules}
-use mathlib.Core.Path.{◌≡◌, refl, sym, ◌∙◌}
-use lib.ListN.{length}
-use Prim.Native.Nat.{◌-◌, ◌^◌, ◌<◌}
+use mathlib.Core.Path.{refl, sym, ◌∙◌}
 use native.Mathlib.Omega.{arith}
 use Rattle.layout.specs.Streams.{data_of, contents}
-use Rattle.layout.specs.Filing.{entries, entries_from}
 use Rattle.laws.proofs.Laying.{length-contents}
-use Rattle.filing.specs.Located.{numbered}
-use Rattle.filing.specs.Paged.{Paged}
 use Rattle.filing.proofs.Paging.{page_blank, turned_fits, turned_piece, piece_index, piece_length}
 use Rattle.filing.proofs.Finding.{entries-start, nth_here, nth_next, nth_none}
 use Rattle.filing.proofs.listing.nth_entry.Goals as goal

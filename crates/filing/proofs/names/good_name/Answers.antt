@@ -1,6 +1,5 @@
 -- `filing::names::good_name` keeps its promise.
 use Rattle.filing.proofs.Naming.{name-short, name-long, name-rest}
-use borrow.Author.Rules.{rules}
 use Rattle.filing.proofs.names.good_name.Goals as goal
 
 pub returns-then-name-lt1 : goal.returns-then-name-lt1

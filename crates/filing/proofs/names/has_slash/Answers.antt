@@ -1,10 +1,5 @@
 -- `filing::names::has_slash` keeps its promise.
-use borrow.Author.Rules.{rules}
-use mathlib.Core.Path.{◌≡◌, refl, ◌∙◌}
-use lib.ListN.{length, drop}
-use Prim.Native.Nat.{◌-◌}
-use Rattle.layout.specs.Limits.{slash}
-use Rattle.layout.specs.Bytes.{holds}
+use mathlib.Core.Path.{refl, ◌∙◌}
 use Rattle.filing.proofs.Naming.{slash_here, slash_later, slash_nowhere}
 use Rattle.filing.proofs.names.has_slash.Goals as goal
 

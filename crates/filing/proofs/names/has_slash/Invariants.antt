@@ -1,11 +1,9 @@
 -- `filing::names::has_slash` keeps its promise.
-use borrow.Author.Rules.{rules}
-use mathlib.Core.Path.{◌≡◌, refl, ◌∙◌}
+use mathlib.Core.Path.{◌≡◌}
 use lib.ListN.{length, drop}
 use Prim.Native.Nat.{◌-◌}
 use Rattle.layout.specs.Limits.{slash}
 use Rattle.layout.specs.Bytes.{holds}
-use Rattle.filing.proofs.Naming.{slash_here, slash_later, slash_nowhere}
 use Rattle.filing.proofs.names.has_slash.Given as goal
 
 abbrev pub invariant-loop-i : goal.invariant-loop-i

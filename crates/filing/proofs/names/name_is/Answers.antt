@@ -1,6 +1,5 @@
 -- `filing::names::name_is` keeps its promise.
 use Rattle.filing.proofs.Naming.{name_other, name_compared}
-use borrow.Author.Rules.{rules}
 use Rattle.filing.proofs.names.name_is.Goals as goal
 
 pub returns-then-m-name : goal.returns-then-m-name

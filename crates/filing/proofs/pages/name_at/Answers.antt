@@ -2,7 +2,6 @@
 use mathlib.Core.Path.{sym}
 use Rattle.laws.proofs.Laying.{length-contents}
 use Rattle.filing.proofs.Paging.{piece_gathered, piece_named}
-use borrow.Author.Rules.{rules}
 use Rattle.filing.proofs.pages.name_at.Goals as goal
 
 pub returns : goal.returns

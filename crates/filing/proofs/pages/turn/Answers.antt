@@ -1,6 +1,5 @@
 -- `filing::pages::turn` keeps its promise.
 use Rattle.filing.proofs.Paging.{page-gathered}
-use borrow.Author.Rules.{rules}
 use Rattle.filing.proofs.pages.turn.Goals as goal
 
 pub returns : goal.returns

@@ -1,9 +1,6 @@
 -- `heading::header::power` keeps its promise.
-use borrow.Author.Rules.{rules}
-use mathlib.Core.Path.{◌≡◌, refl, ap, ◌∙◌}
-use Prim.Native.Nat.{ℕ, ◌-◌, ◌^◌, ◌≤◌}
-use native.Mathlib.Omega.{arith}
-use Rattle.heading.proofs.Heading.{power-step, power-low}
+use mathlib.Core.Path.{◌≡◌}
+use Prim.Native.Nat.{◌-◌, ◌^◌, ◌≤◌}
 use Rattle.heading.proofs.header.power.Given as goal
 
 abbrev pub invariant-loop-n : goal.invariant-loop-n

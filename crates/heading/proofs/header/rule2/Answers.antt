@@ -1,6 +1,4 @@
 -- `heading::header::rule2` keeps its promise.
-use borrow.Author.Tests.{not-true, not-false}
-use borrow.Author.Rules.{rules}
 use Rattle.heading.proofs.Heading.{fixed-first, fixed_second, fixed_third, fixed-last}
 use Rattle.heading.proofs.header.rule2.Goals as goal
 

@@ -1,5 +1,4 @@
 -- `heading::header::rule3` keeps its promise.
-use borrow.Author.Rules.{rules}
 use native.Mathlib.Omega.{arith}
 use Rattle.heading.proofs.Heading.{power-some, shift-low, shift-high, rest_part, rest_none, rest-last}
 use Rattle.heading.proofs.header.rule3.Goals as goal

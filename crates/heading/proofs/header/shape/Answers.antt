@@ -1,5 +1,4 @@
 -- `heading::header::shape` keeps its promise.
-use borrow.Author.Rules.{rules}
 use native.Mathlib.Omega.{arith}
 use Rattle.heading.proofs.Heading.{power-some, shape_is}
 use Rattle.heading.proofs.header.shape.Goals as goal

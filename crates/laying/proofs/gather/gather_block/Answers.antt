@@ -1,7 +1,6 @@
 -- `laying::gather::gather_block` keeps its promise.
 use mathlib.Core.Path.{◌∙◌}
 use Rattle.laying.proofs.Blockwise.{window-near}
-use borrow.Author.Rules.{rules}
 use Rattle.laying.proofs.gather.gather_block.Goals as goal
 
 pub returns : goal.returns

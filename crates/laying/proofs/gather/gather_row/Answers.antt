@@ -1,13 +1,8 @@
 -- `laying::gather::gather_row` keeps its promise.
-use borrow.Author.Rules.{rules}
-use mathlib.Core.Path.{◌≡◌, refl, ap, ◌∙◌}
-use Prim.Native.Nat.{◌+◌, ◌*◌, ◌≤◌, ◌<◌}
+use mathlib.Core.Path.{refl, ap, ◌∙◌}
 use native.Mathlib.Omega.{arith}
 use lib.ListN.{length}
-use Rattle.layout.specs.Bytes.{over}
-use Rattle.layout.specs.Blocks.{slot}
 use Rattle.laws.proofs.ByteLaws.{length_over}
-use Rattle.laying.specs.Gathered.{gathered}
 use Rattle.laying.proofs.Blockwise.{block-turn, gathered_end}
 use Rattle.laying.proofs.gather.gather_row.Goals as goal
 

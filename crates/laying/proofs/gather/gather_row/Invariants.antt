@@ -1,14 +1,10 @@
 -- `laying::gather::gather_row` keeps its promise.
-use borrow.Author.Rules.{rules}
-use mathlib.Core.Path.{◌≡◌, refl, ap, ◌∙◌}
+use mathlib.Core.Path.{◌≡◌}
 use Prim.Native.Nat.{◌+◌, ◌*◌, ◌≤◌, ◌<◌}
-use native.Mathlib.Omega.{arith}
 use lib.ListN.{length}
 use Rattle.layout.specs.Bytes.{over}
 use Rattle.layout.specs.Blocks.{slot}
-use Rattle.laws.proofs.ByteLaws.{length_over}
 use Rattle.laying.specs.Gathered.{gathered}
-use Rattle.laying.proofs.Blockwise.{block-turn, gathered_end}
 use Rattle.laying.proofs.gather.gather_row.Given as goal
 
 abbrev pub invariant-loop-left : goal.invariant-loop-left

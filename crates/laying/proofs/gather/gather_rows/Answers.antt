@@ -1,15 +1,11 @@
 -- `laying::gather::gather_rows` keeps its promise.
-use borrow.Author.Rules.{rules}
-use mathlib.Core.Path.{◌≡◌, refl, ap, ◌∙◌}
-use Prim.Native.Nat.{◌+◌, ◌*◌, ◌≤◌, ◌<◌}
+use mathlib.Core.Path.{refl, ap, ◌∙◌}
 use native.Mathlib.Nat.{mod-lt}
 use native.Mathlib.Omega.{arith}
 use lib.ListN.{length}
 use Rattle.layout.specs.Bytes.{over}
-use Rattle.layout.specs.Blocks.{fan, node}
 use Rattle.laws.proofs.ByteLaws.{length_over}
 use Rattle.blocks.proofs.Near.{fan_pos}
-use Rattle.laying.specs.Gathered.{gathered}
 use Rattle.laying.proofs.Blockwise.{rows_begin, rows_turn, gathered_end, row_fits, row_room, row_low}
 use Rattle.laying.proofs.gather.gather_rows.Goals as goal
 

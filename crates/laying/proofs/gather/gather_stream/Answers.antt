@@ -1,7 +1,6 @@
 -- `laying::gather::gather_stream` keeps its promise.
 use mathlib.Core.Path.{sym, ◌∙◌}
 use Rattle.laying.proofs.Blockwise.{gather_none, gather_done}
-use borrow.Author.Rules.{rules}
 use Rattle.laying.proofs.gather.gather_stream.Goals as goal
 
 pub returns-then-m-eq0 : goal.returns-then-m-eq0

@@ -1,12 +1,8 @@
 -- `laying::lay::lay` keeps its promise.
-use borrow.Author.Rules.{rules}
-use mathlib.Core.Path.{◌≡◌, refl, ap, ◌∙◌}
-use Prim.Native.Nat.{◌+◌, ◌-◌, ◌/◌, ◌%◌, ◌≤◌, ◌<◌}
+use mathlib.Core.Path.{refl, ap, ◌∙◌}
 use native.Mathlib.Nat.{mod-lt}
 use native.Mathlib.Omega.{arith}
-use lib.ListN.{length, take, drop}
-use Rattle.layout.specs.Blocks.{fan}
-use Rattle.layout.specs.Streams.{laid_rows}
+use lib.ListN.{length}
 use Rattle.blocks.proofs.Near.{fan_pos, small_same}
 use Rattle.laying.proofs.Blockwise.{row_fits, row_room, row_low}
 use Rattle.laying.proofs.Rowwise.{length-row, lays_turn, rows_done, laid-top, laid-below, laid_begun}

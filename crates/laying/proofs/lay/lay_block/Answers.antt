@@ -2,7 +2,6 @@
 use mathlib.Core.Path.{◌∙◌}
 use native.Mathlib.Omega.{arith}
 use Rattle.blocks.proofs.Near.{over-near}
-use borrow.Author.Rules.{rules}
 use Rattle.laying.proofs.lay.lay_block.Goals as goal
 
 pub returns : goal.returns

@@ -1,10 +1,7 @@
 -- `laying::lay::lay_row` keeps its promise.
-use borrow.Author.Rules.{rules}
-use mathlib.Core.Path.{◌≡◌, refl, ap, ◌∙◌}
-use Prim.Native.Nat.{◌+◌, ◌≤◌, ◌<◌}
+use mathlib.Core.Path.{refl, ap, ◌∙◌}
 use native.Mathlib.Omega.{arith}
-use lib.ListN.{length, take, drop}
-use Rattle.layout.specs.Streams.{laid_row}
+use lib.ListN.{length}
 use Rattle.laws.proofs.ByteLaws.{length_over}
 use Rattle.blocks.proofs.Near.{small_same}
 use Rattle.laying.proofs.Rowwise.{lay-turn, row_done}

@@ -1,13 +1,8 @@
 -- `laying::lay::lay_row` keeps its promise.
-use borrow.Author.Rules.{rules}
-use mathlib.Core.Path.{◌≡◌, refl, ap, ◌∙◌}
+use mathlib.Core.Path.{◌≡◌}
 use Prim.Native.Nat.{◌+◌, ◌≤◌, ◌<◌}
-use native.Mathlib.Omega.{arith}
 use lib.ListN.{length, take, drop}
 use Rattle.layout.specs.Streams.{laid_row}
-use Rattle.laws.proofs.ByteLaws.{length_over}
-use Rattle.blocks.proofs.Near.{small_same}
-use Rattle.laying.proofs.Rowwise.{lay-turn, row_done}
 use Rattle.laying.proofs.lay.lay_row.Given as goal
 
 abbrev pub invariant-loop-left : goal.invariant-loop-left

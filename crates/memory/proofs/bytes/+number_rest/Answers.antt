@@ -1,10 +1,8 @@
 -- `memory::bytes::number_rest` keeps its promise.
-use borrow.Author.Rules.{rules}
 use mathlib.Core.Path.{refl, sym, ◌∙◌}
 use native.Mathlib.Omega.{arith}
 use native.Mathlib.Nat.{pos_of_ne-zero, one-le-pow}
 use Rattle.memory.proofs.Turns.{num-zero, num-same, num-first, first_small, first_fits}
-use Prim.Native.Nat.{ℕ, ◌<◌}
 use Rattle.memory.proofs.bytes.+number_rest.Goals as goal
 
 pub returns-then-width-eq0 : goal.returns-then-width-eq0

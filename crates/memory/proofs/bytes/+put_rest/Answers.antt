@@ -6,7 +6,6 @@ use lib.ListN.{length, length-set}
 use native.Mathlib.Nat.{pos_of_ne-zero}
 use Rattle.laws.proofs.ByteLaws.{length-put}
 use Rattle.memory.proofs.Turns.{put-zero, put_step}
-use Prim.Native.Nat.{ℕ, ◌<◌}
 use Rattle.memory.proofs.bytes.+put_rest.Goals as goal
 
 pub returns-then-width-eq0 : goal.returns-then-width-eq0

@@ -1,7 +1,6 @@
 -- `memory::bytes::byte` keeps its promise.
 use mathlib.Core.Path.{sym}
 use lib.ListN.{get_or-eq_default}
-use borrow.Author.Rules.{rules}
 use Rattle.memory.proofs.bytes.byte.Goals as goal
 
 pub returns-else-at-card : goal.returns-else-at-card

@@ -3,7 +3,6 @@ use mathlib.Core.Path.{◌∙◌}
 use native.Mathlib.Nat.{pow-le-pow_right}
 use native.Mathlib.Omega.{arith}
 use Rattle.memory.proofs.Turns.{num_clamp}
-use borrow.Author.Rules.{rules}
 use Rattle.memory.proofs.bytes.number.Goals as goal
 
 pub returns : goal.returns

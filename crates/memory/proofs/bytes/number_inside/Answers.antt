@@ -1,9 +1,7 @@
 -- `memory::bytes::number_inside` keeps its promise.
 use borrow.Author.Rules.{rules}
 use mathlib.Core.Path.{◌≡◌, sym, ◌∙◌}
-use Prim.Native.Nat.{◌+◌, ◌-◌, ◌^◌, ◌≤◌, ◌<◌}
 use native.Mathlib.Omega.{arith}
-use Rattle.layout.specs.Bytes.{num}
 use Rattle.memory.proofs.Turns.{num-zero, num-step, num-same, pow_step, pow_fits}
 use Rattle.memory.proofs.bytes.number_inside.Goals as goal
 

@@ -1,10 +1,7 @@
 -- `memory::bytes::number_inside` keeps its promise.
-use borrow.Author.Rules.{rules}
-use mathlib.Core.Path.{◌≡◌, sym, ◌∙◌}
+use mathlib.Core.Path.{◌≡◌}
 use Prim.Native.Nat.{◌+◌, ◌-◌, ◌^◌, ◌≤◌, ◌<◌}
-use native.Mathlib.Omega.{arith}
 use Rattle.layout.specs.Bytes.{num}
-use Rattle.memory.proofs.Turns.{num-zero, num-step, num-same, pow_step, pow_fits}
 use Rattle.memory.proofs.bytes.number_inside.Given as goal
 
 abbrev pub invariant-loop-n : goal.invariant-loop-n

@@ -1,7 +1,6 @@
 -- `memory::bytes::put_byte` keeps its promise.
 use mathlib.Core.Path.{sym}
 use lib.Seq.{set_out}
-use borrow.Author.Rules.{rules}
 use Rattle.memory.proofs.bytes.put_byte.Goals as goal
 
 pub returns-else-at-card : goal.returns-else-at-card

@@ -1,10 +1,7 @@
 -- `memory::bytes::put_inside` keeps its promise.
-use borrow.Author.Rules.{rules}
-use mathlib.Core.Path.{◌≡◌, refl, ◌∙◌}
-use Prim.Native.Nat.{◌-◌, ◌≤◌}
+use mathlib.Core.Path.{refl, ◌∙◌}
 use native.Mathlib.Omega.{arith}
-use lib.ListN.{length, length-set}
-use Rattle.layout.specs.Bytes.{put}
+use lib.ListN.{length-set}
 use Rattle.memory.proofs.Turns.{put-zero, put_step}
 use Rattle.memory.proofs.bytes.put_inside.Goals as goal
 

@@ -1,11 +1,8 @@
 -- `memory::bytes::put_inside` keeps its promise.
-use borrow.Author.Rules.{rules}
-use mathlib.Core.Path.{◌≡◌, refl, ◌∙◌}
+use mathlib.Core.Path.{◌≡◌}
 use Prim.Native.Nat.{◌-◌, ◌≤◌}
-use native.Mathlib.Omega.{arith}
-use lib.ListN.{length, length-set}
+use lib.ListN.{length}
 use Rattle.layout.specs.Bytes.{put}
-use Rattle.memory.proofs.Turns.{put-zero, put_step}
 use Rattle.memory.proofs.bytes.put_inside.Given as goal
 
 abbrev pub invariant-loop-left : goal.invariant-loop-left

@@ -2,7 +2,6 @@
 use mathlib.Core.Path.{◌∙◌}
 use native.Mathlib.Omega.{arith}
 use Rattle.memory.proofs.Turns.{put_clamp}
-use borrow.Author.Rules.{rules}
 use Rattle.memory.proofs.bytes.put_number.Goals as goal
 
 pub returns : goal.returns

@@ -1,10 +1,8 @@
 -- `memory::runs::clear` keeps its promise.
 use borrow.Author.Rules.{rules}
-use mathlib.Core.Path.{◌≡◌, refl, ◌∙◌}
-use Prim.Native.Nat.{◌-◌, ◌≤◌}
+use mathlib.Core.Path.{refl, ◌∙◌}
 use native.Mathlib.Omega.{arith}
-use lib.ListN.{length, length-set, replicate}
-use Rattle.layout.specs.Bytes.{over}
+use lib.ListN.{length-set}
 use Rattle.memory.proofs.Turns.{clear_clamp, clear_step, clear_none}
 use Rattle.memory.proofs.runs.clear.Goals as goal
 

@@ -1,11 +1,8 @@
 -- `memory::runs::clear` keeps its promise.
-use borrow.Author.Rules.{rules}
-use mathlib.Core.Path.{◌≡◌, refl, ◌∙◌}
+use mathlib.Core.Path.{◌≡◌}
 use Prim.Native.Nat.{◌-◌, ◌≤◌}
-use native.Mathlib.Omega.{arith}
-use lib.ListN.{length, length-set, replicate}
+use lib.ListN.{length, replicate}
 use Rattle.layout.specs.Bytes.{over}
-use Rattle.memory.proofs.Turns.{clear_clamp, clear_step, clear_none}
 use Rattle.memory.proofs.runs.clear.Given as goal
 
 abbrev pub invariant-loop-left : goal.invariant-loop-left

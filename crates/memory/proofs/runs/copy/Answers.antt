@@ -1,7 +1,6 @@
 -- `memory::runs::copy` keeps its promise.
 use mathlib.Core.Path.{◌∙◌}
 use Rattle.memory.proofs.Turns.{copy_clamp}
-use borrow.Author.Rules.{rules}
 use Rattle.memory.proofs.runs.copy.Goals as goal
 
 pub returns-then-m-le4096 : goal.returns-then-m-le4096

@@ -1,7 +1,6 @@
 -- `memory::runs::copy_page` keeps its promise.
 use native.Mathlib.Omega.{arith}
 use Rattle.memory.proofs.Turns.{page_by}
-use borrow.Author.Rules.{rules}
 use Rattle.memory.proofs.runs.copy_page.Goals as goal
 
 pub returns : goal.returns

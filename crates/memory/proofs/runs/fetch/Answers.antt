@@ -1,7 +1,6 @@
 -- `memory::runs::fetch` keeps its promise.
 use mathlib.Core.Path.{◌∙◌}
 use Rattle.memory.proofs.Turns.{fetch-inside, fetch_past}
-use borrow.Author.Rules.{rules}
 use Rattle.memory.proofs.runs.fetch.Goals as goal
 
 pub returns-then-m-n : goal.returns-then-m-n

@@ -1,10 +1,7 @@
 -- `memory::runs::load` keeps its promise.
-use borrow.Author.Rules.{rules}
-use mathlib.Core.Path.{◌≡◌, refl, ◌∙◌}
-use Prim.Native.Nat.{◌+◌}
+use mathlib.Core.Path.{refl, ◌∙◌}
 use native.Mathlib.Omega.{arith}
-use lib.ListN.{length, length-set, take, drop}
-use Rattle.layout.specs.Bytes.{over}
+use lib.ListN.{length-set}
 use Rattle.memory.proofs.Turns.{copy_step, copy_none}
 use Rattle.memory.proofs.runs.load.Goals as goal
 

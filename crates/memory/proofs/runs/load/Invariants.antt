@@ -1,11 +1,8 @@
 -- `memory::runs::load` keeps its promise.
-use borrow.Author.Rules.{rules}
-use mathlib.Core.Path.{◌≡◌, refl, ◌∙◌}
+use mathlib.Core.Path.{◌≡◌}
 use Prim.Native.Nat.{◌+◌}
-use native.Mathlib.Omega.{arith}
-use lib.ListN.{length, length-set, take, drop}
+use lib.ListN.{length, take, drop}
 use Rattle.layout.specs.Bytes.{over}
-use Rattle.memory.proofs.Turns.{copy_step, copy_none}
 use Rattle.memory.proofs.runs.load.Given as goal
 
 abbrev pub invariant-loop-left : goal.invariant-loop-left

@@ -1,10 +1,6 @@
 -- `memory::runs::matches` keeps its promise.
-use borrow.Author.Rules.{rules}
-use mathlib.Core.Path.{◌≡◌, refl, ◌∙◌}
-use Prim.Native.Nat.{◌+◌, ◌-◌, ◌≤◌}
+use mathlib.Core.Path.{refl, ◌∙◌}
 use native.Mathlib.Omega.{arith}
-use lib.ListN.{length, drop}
-use Rattle.layout.specs.Bytes.{matches}
 use Rattle.memory.proofs.Turns.{match_step, match_stop, match_end}
 use Rattle.memory.proofs.runs.matches.Goals as goal
 

@@ -1,11 +1,8 @@
 -- `memory::runs::matches` keeps its promise.
-use borrow.Author.Rules.{rules}
-use mathlib.Core.Path.{◌≡◌, refl, ◌∙◌}
+use mathlib.Core.Path.{◌≡◌}
 use Prim.Native.Nat.{◌+◌, ◌-◌, ◌≤◌}
-use native.Mathlib.Omega.{arith}
 use lib.ListN.{length, drop}
 use Rattle.layout.specs.Bytes.{matches}
-use Rattle.memory.proofs.Turns.{match_step, match_stop, match_end}
 use Rattle.memory.proofs.runs.matches.Given as goal
 
 abbrev pub invariant-loop-i : goal.invariant-loop-i

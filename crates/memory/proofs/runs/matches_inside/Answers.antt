@@ -1,12 +1,7 @@
 -- `memory::runs::matches_inside` keeps its promise.
-use mathlib.Core.Path.{◌≡◌, refl, ◌∙◌}
-use mathlib.Core.Logic.{⊎_elim}
+use mathlib.Core.Path.{refl, ◌∙◌}
 use Rattle.memory.proofs.Turns.{match_miss, match_keep, match_whole}
-use borrow.Author.Rules.{rules}
-use Prim.Native.Nat.{◌+◌}
 use native.Mathlib.Omega.{arith}
-use lib.ListN.{length, drop}
-use Rattle.layout.specs.Bytes.{both, matches}
 use Rattle.memory.proofs.runs.matches_inside.Goals as goal
 use Rattle.memory.proofs.runs.matches_inside.Goals.{then-card-p, else-card-p}
 

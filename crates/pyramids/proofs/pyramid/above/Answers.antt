@@ -1,7 +1,5 @@
 -- `pyramids::pyramid::above` keeps its promise.
-use borrow.Author.Rules.{rules}
 use mathlib.Core.Path.{◌≡◌}
-use Prim.Native.Nat.{◌≤◌, ◌-◌}
 use native.Mathlib.Nat.{div-le_self}
 use native.Mathlib.Omega.{arith}
 use Rattle.pyramids.proofs.Numbers.{above_step, above_zero}

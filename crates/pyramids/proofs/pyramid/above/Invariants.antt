@@ -1,10 +1,6 @@
 -- `pyramids::pyramid::above` keeps its promise.
-use borrow.Author.Rules.{rules}
 use mathlib.Core.Path.{◌≡◌}
 use Prim.Native.Nat.{◌≤◌, ◌-◌}
-use native.Mathlib.Nat.{div-le_self}
-use native.Mathlib.Omega.{arith}
-use Rattle.pyramids.proofs.Numbers.{above_step, above_zero}
 use Rattle.pyramids.proofs.pyramid.above.Given as goal
 
 abbrev pub invariant-loop-i : goal.invariant-loop-i

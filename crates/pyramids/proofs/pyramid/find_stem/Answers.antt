@@ -1,7 +1,5 @@
 -- `pyramids::pyramid::find_stem` keeps its promise.
-use borrow.Author.Rules.{rules}
-use Prim.Native.Nat.{◌-◌}
-use Rattle.pyramids.proofs.Numbers.{Climbing, climb-start, climb-next, climb_stop}
+use Rattle.pyramids.proofs.Numbers.{climb-start, climb-next, climb_stop}
 use Rattle.pyramids.proofs.pyramid.find_stem.Goals as goal
 
 pub loop-m-init : goal.loop-m-init

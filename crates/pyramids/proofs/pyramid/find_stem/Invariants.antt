@@ -1,7 +1,6 @@
 -- `pyramids::pyramid::find_stem` keeps its promise.
-use borrow.Author.Rules.{rules}
 use Prim.Native.Nat.{◌-◌}
-use Rattle.pyramids.proofs.Numbers.{Climbing, climb-start, climb-next, climb_stop}
+use Rattle.pyramids.proofs.Numbers.{Climbing}
 use Rattle.pyramids.proofs.pyramid.find_stem.Given as goal
 
 abbrev pub invariant-loop-m : goal.invariant-loop-m

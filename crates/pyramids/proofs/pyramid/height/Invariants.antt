@@ -1,9 +1,6 @@
 -- `pyramids::pyramid::height` keeps its promise.
-use borrow.Author.Rules.{rules}
 use mathlib.Core.Path.{◌≡◌}
 use Prim.Native.Nat.{◌+◌, ◌≤◌}
-use native.Mathlib.Omega.{arith}
-use Rattle.laws.proofs.Levels.{up_less, height-low, height-high}
 use Rattle.pyramids.proofs.pyramid.height.Given as goal
 
 abbrev pub invariant-loop-n : goal.invariant-loop-n

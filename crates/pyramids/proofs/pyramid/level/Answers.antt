@@ -1,7 +1,5 @@
 -- `pyramids::pyramid::level` keeps its promise.
-use borrow.Author.Rules.{rules}
 use mathlib.Core.Path.{◌≡◌, ◌∙◌}
-use Prim.Native.Nat.{◌≤◌, ◌-◌}
 use native.Mathlib.Omega.{arith}
 use Rattle.pyramids.proofs.Numbers.{level-step, level-zero}
 use Rattle.pyramids.proofs.pyramid.level.Goals as goal

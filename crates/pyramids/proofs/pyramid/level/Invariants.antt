@@ -1,9 +1,6 @@
 -- `pyramids::pyramid::level` keeps its promise.
-use borrow.Author.Rules.{rules}
-use mathlib.Core.Path.{◌≡◌, ◌∙◌}
+use mathlib.Core.Path.{◌≡◌}
 use Prim.Native.Nat.{◌≤◌, ◌-◌}
-use native.Mathlib.Omega.{arith}
-use Rattle.pyramids.proofs.Numbers.{level-step, level-zero}
 use Rattle.pyramids.proofs.pyramid.level.Given as goal
 
 abbrev pub invariant-loop-i : goal.invariant-loop-i

@@ -1,11 +1,7 @@
 -- `pyramids::pyramid::needed` keeps its promise.
-use borrow.Author.Rules.{rules}
 use mathlib.Core.Path.{◌≡◌}
 use Prim.Native.Nat.{◌+◌, ◌*◌, ◌≤◌}
-use native.Mathlib.Omega.{arith}
 use Rattle.layout.specs.Pyramid.{P}
-use Rattle.laws.proofs.Levels.{P-low, P-high}
-use Rattle.pyramids.proofs.Numbers.{up_half}
 use Rattle.pyramids.proofs.pyramid.needed.Given as goal
 
 abbrev pub invariant-loop-n : goal.invariant-loop-n

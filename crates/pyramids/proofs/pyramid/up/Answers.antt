@@ -2,7 +2,6 @@
 use native.Mathlib.Nat.{pos_of_ne-zero}
 use native.Mathlib.Omega.{arith}
 use Rattle.pyramids.proofs.Numbers.{up_none, up_pos, up_le}
-use borrow.Author.Rules.{rules}
 use Rattle.pyramids.proofs.pyramid.up.Goals as goal
 
 pub returns-then-n-eq0 : goal.returns-then-n-eq0

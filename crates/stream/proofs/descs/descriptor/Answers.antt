@@ -1,6 +1,5 @@
 -- `stream::descs::descriptor` keeps its promise.
 use Rattle.stream.proofs.Fields.{read-fields}
-use borrow.Author.Rules.{rules}
 use Rattle.stream.proofs.descs.descriptor.Goals as goal
 
 pub returns : goal.returns

@@ -1,5 +1,4 @@
 -- `stream::descs::descriptors` keeps its promise.
-use borrow.Author.Rules.{rules}
 use Rattle.stream.proofs.Fields.{slots_is}
 use Rattle.stream.proofs.descs.descriptors.Goals as goal
 

@@ -1,6 +1,5 @@
 -- `stream::descs::put_fields` keeps its promise.
 use Rattle.stream.proofs.Fields.{three_fields}
-use borrow.Author.Rules.{rules}
 use Rattle.stream.proofs.descs.put_fields.Goals as goal
 
 pub returns : goal.returns

@@ -1,7 +1,6 @@
 -- `stream::descs::set_stream` keeps its promise.
 use mathlib.Core.Path.{refl}
 use Rattle.stream.proofs.Fields.{stream-set}
-use borrow.Author.Rules.{rules}
 use Rattle.stream.proofs.descs.set_stream.Goals as goal
 
 pub returns : goal.returns

@@ -1,6 +1,5 @@
 -- `stream::descs::set_table` keeps its promise.
 use Rattle.layout.specs.Streams.{table_set}
-use borrow.Author.Rules.{rules}
 use Rattle.stream.proofs.descs.set_table.Goals as goal
 
 pub returns : goal.returns

@@ -1,6 +1,5 @@
 -- `stream::descs::stream` keeps its promise.
 use Rattle.stream.proofs.Fields.{stream-read}
-use borrow.Author.Rules.{rules}
 use Rattle.stream.proofs.descs.stream.Goals as goal
 
 pub returns : goal.returns

@@ -1,6 +1,5 @@
 -- `stream::descs::table` keeps its promise.
 use Rattle.layout.specs.Streams.{table}
-use borrow.Author.Rules.{rules}
 use Rattle.stream.proofs.descs.table.Goals as goal
 
 pub returns : goal.returns

@@ -1,6 +1,5 @@
 -- `stream::inside::lay_in_stream` keeps its promise.
 use Rattle.stream.proofs.Fields.{stream-laid}
-use borrow.Author.Rules.{rules}
 use Rattle.stream.proofs.inside.lay_in_stream.Goals as goal
 
 pub returns : goal.returns

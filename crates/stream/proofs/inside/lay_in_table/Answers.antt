@@ -1,6 +1,5 @@
 -- `stream::inside::lay_in_table` keeps its promise.
 use Rattle.stream.proofs.Fields.{table-laid}
-use borrow.Author.Rules.{rules}
 use Rattle.stream.proofs.inside.lay_in_table.Goals as goal
 
 pub returns : goal.returns

@@ -1,6 +1,5 @@
 -- `stream::inside::put_table_number` keeps its promise.
 use Rattle.stream.proofs.Fields.{number-laid}
-use borrow.Author.Rules.{rules}
 use Rattle.stream.proofs.inside.put_table_number.Goals as goal
 
 pub returns : goal.returns

@@ -1,6 +1,5 @@
 -- `stream::inside::table_number` keeps its promise.
 use Rattle.stream.proofs.Fields.{table-num}
-use borrow.Author.Rules.{rules}
 use Rattle.stream.proofs.inside.table_number.Goals as goal
 
 pub returns : goal.returns

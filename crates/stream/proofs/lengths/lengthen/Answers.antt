@@ -5,7 +5,6 @@ use lib.ListN.{length}
 use Rattle.laws.proofs.Lengths.{length-grown}
 use Rattle.blocks.proofs.Near.{small_same}
 use Rattle.stream.proofs.Sizes.{data_fits, up_fits, longer_fits, stream-longer}
-use borrow.Author.Rules.{rules}
 use Rattle.stream.proofs.lengths.lengthen.Goals as goal
 
 pub grow-top-requires : goal.grow-top-requires

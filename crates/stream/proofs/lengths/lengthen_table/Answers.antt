@@ -6,7 +6,6 @@ use lib.ListN.{length}
 use Rattle.laws.proofs.Lengths.{length-grown}
 use Rattle.blocks.proofs.Near.{small_same}
 use Rattle.stream.proofs.Sizes.{data_fits, up_fits, longer_fits, table-longer, table_fits}
-use borrow.Author.Rules.{rules}
 use Rattle.stream.proofs.lengths.lengthen_table.Goals as goal
 
 pub overflow_add-n : goal.overflow_add-n

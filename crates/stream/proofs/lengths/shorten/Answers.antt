@@ -4,7 +4,6 @@ use native.Mathlib.Omega.{arith}
 use lib.ListN.{length}
 use Rattle.blocks.proofs.Near.{small_same}
 use Rattle.stream.proofs.Sizes.{data_fits, up_fits, stream-shorter, length-released}
-use borrow.Author.Rules.{rules}
 use Rattle.stream.proofs.lengths.shorten.Goals as goal
 
 pub release-requires : goal.release-requires

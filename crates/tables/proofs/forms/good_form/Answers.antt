@@ -1,5 +1,4 @@
 -- `tables::forms::good_form` keeps its promise.
-use borrow.Author.Rules.{rules}
 use Rattle.tables.proofs.Shaped.{form_free, form_live}
 use Rattle.tables.proofs.forms.good_form.Goals as goal
 

@@ -1,11 +1,6 @@
 -- `tables::forms::good_forms` keeps its promise.
-use borrow.Author.Rules.{rules}
-use borrow.Author.Tests.{not-true, not-false}
-use mathlib.Core.Path.{◌≡◌, refl, ◌∙◌}
-use Prim.Native.Nat.{◌+◌}
+use mathlib.Core.Path.{refl, ◌∙◌}
 use native.Mathlib.Omega.{arith}
-use Rattle.layout.specs.Bytes.{run, all_b}
-use Rattle.layout.specs.Sound.{good_form}
 use Rattle.tables.proofs.Every.{all_done}
 use Rattle.tables.proofs.Shaped.{forms_stop, forms_turn}
 use Rattle.tables.proofs.forms.good_forms.Goals as goal

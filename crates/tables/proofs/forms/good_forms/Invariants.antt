@@ -1,13 +1,8 @@
 -- `tables::forms::good_forms` keeps its promise.
-use borrow.Author.Rules.{rules}
-use borrow.Author.Tests.{not-true, not-false}
-use mathlib.Core.Path.{◌≡◌, refl, ◌∙◌}
+use mathlib.Core.Path.{◌≡◌}
 use Prim.Native.Nat.{◌+◌}
-use native.Mathlib.Omega.{arith}
 use Rattle.layout.specs.Bytes.{run, all_b}
 use Rattle.layout.specs.Sound.{good_form}
-use Rattle.tables.proofs.Every.{all_done}
-use Rattle.tables.proofs.Shaped.{forms_stop, forms_turn}
 use Rattle.tables.proofs.forms.good_forms.Given as goal
 
 abbrev pub invariant-loop-left : goal.invariant-loop-left

@@ -1,6 +1,4 @@
 -- `tables::forms::live_form` keeps its promise.
-use borrow.Author.Tests.{not-true, not-false}
-use borrow.Author.Rules.{rules}
 use Rattle.tables.proofs.Shaped.{live_wrong, live-empty, live-some}
 use Rattle.tables.proofs.forms.live_form.Goals as goal
 

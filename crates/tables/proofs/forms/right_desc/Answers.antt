@@ -1,5 +1,4 @@
 -- `tables::forms::right_desc` keeps its promise.
-use borrow.Author.Rules.{rules}
 use Rattle.tables.proofs.Shaped.{right_flags, right_many, right_other, right_last}
 use Rattle.tables.proofs.forms.right_desc.Goals as goal
 

@@ -1,5 +1,4 @@
 -- `tables::spare::is_asked` keeps its promise.
-use borrow.Author.Rules.{rules}
 use Rattle.tables.proofs.Spares.{asked-live, asked-free}
 use Rattle.tables.proofs.spare.is_asked.Goals as goal
 

@@ -1,6 +1,5 @@
 -- `tables::spare::is_free` keeps its promise.
 use Rattle.tables.proofs.Spares.{free_is}
-use borrow.Author.Rules.{rules}
 use Rattle.tables.proofs.spare.is_free.Goals as goal
 
 pub returns : goal.returns

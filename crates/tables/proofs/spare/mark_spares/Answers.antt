@@ -1,13 +1,6 @@
 -- `tables::spare::mark_spares` keeps its promise.
 use borrow.Author.Rules.{rules}
-use borrow.Author.Tests.{not-true, not-false}
-use mathlib.Core.Path.{◌≡◌, refl}
-use mathlib.Core.List.{map}
-use lib.ListN.{length}
-use Rattle.layout.specs.Bytes.{num}
-use Rattle.layout.specs.Blocks.{walk}
-use Rattle.marking.proofs.Walking.{Rest}
-use Rattle.tables.specs.Compared.{number_at, spares}
+use mathlib.Core.Path.{refl}
 use Rattle.tables.proofs.Spares.{spares_begun, spares_end, spares_out, spares-turn, spares_stop}
 use Rattle.tables.proofs.spare.mark_spares.Goals as goal
 

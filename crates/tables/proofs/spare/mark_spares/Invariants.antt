@@ -1,14 +1,11 @@
 -- `tables::spare::mark_spares` keeps its promise.
-use borrow.Author.Rules.{rules}
-use borrow.Author.Tests.{not-true, not-false}
-use mathlib.Core.Path.{◌≡◌, refl}
+use mathlib.Core.Path.{◌≡◌}
 use mathlib.Core.List.{map}
 use lib.ListN.{length}
 use Rattle.layout.specs.Bytes.{num}
 use Rattle.layout.specs.Blocks.{walk}
 use Rattle.marking.proofs.Walking.{Rest}
 use Rattle.tables.specs.Compared.{number_at, spares}
-use Rattle.tables.proofs.Spares.{spares_begun, spares_end, spares_out, spares-turn, spares_stop}
 use Rattle.tables.proofs.spare.mark_spares.Given as goal
 
 abbrev pub invariant-loop-left : goal.invariant-loop-left

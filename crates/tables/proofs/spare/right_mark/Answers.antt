@@ -1,5 +1,4 @@
 -- `tables::spare::right_mark` keeps its promise.
-use borrow.Author.Rules.{rules}
 use Rattle.tables.proofs.Spares.{mark_none, mark-some}
 use Rattle.tables.proofs.spare.right_mark.Goals as goal
 

@@ -1,11 +1,6 @@
 -- `tables::spare::right_marks` keeps its promise.
-use borrow.Author.Rules.{rules}
-use borrow.Author.Tests.{not-true, not-false}
-use mathlib.Core.Path.{◌≡◌, refl, ◌∙◌}
-use Prim.Native.Nat.{◌+◌}
+use mathlib.Core.Path.{refl, ◌∙◌}
 use native.Mathlib.Omega.{arith}
-use Rattle.layout.specs.Bytes.{run, all_b}
-use Rattle.tables.specs.Compared.{right_mark, asked}
 use Rattle.tables.proofs.Every.{all_stop, all-turn, all_done}
 use Rattle.tables.proofs.spare.right_marks.Goals as goal
 

@@ -1,6 +1,4 @@
 -- `tables::spare::rule5` keeps its promise.
-use borrow.Author.Tests.{not-true, not-false}
-use borrow.Author.Rules.{rules}
 use native.Mathlib.Omega.{arith}
 use Rattle.tables.proofs.Paged.{slots-few, page-reads}
 use Rattle.tables.proofs.Spares.{form_wrong, chain_wrong, set_wrong, root-last}

@@ -1,6 +1,4 @@
 -- `tables::table::rule4` keeps its promise.
-use borrow.Author.Tests.{not-true, not-false}
-use borrow.Author.Rules.{rules}
 use native.Mathlib.Omega.{arith}
 use Rattle.stream.proofs.Sizes.{data_fits}
 use Rattle.tables.proofs.Shaped.{table-short, table_long, table_part, table_wrong, table_right}
