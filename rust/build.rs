@@ -1,4 +1,4 @@
-//! Links the archive of the proved code, which `rt staticlib lamporchid` writes.
+//! Links the archive of the proved code, which `rt lib` in crates/lamporchid writes and `rust/run` puts into target/staticlib.
 
 fn main() {
     let here = std::env::var("CARGO_MANIFEST_DIR").expect("cargo names the folder");

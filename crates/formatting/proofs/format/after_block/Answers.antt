@@ -1,7 +1,6 @@
 -- `formatting::format::after_block` keeps its promise.
 use Rattle.layout.specs.Bytes.{end4}
 use Rattle.formatting.proofs.Formatting.{pick_same, pick_other}
-use borrow.Author.Rules.{rules}
 use Rattle.formatting.proofs.format.after_block.Goals as goal
 
 pub returns-then-b-count : goal.returns-then-b-count

@@ -1,7 +1,6 @@
 -- `formatting::format::format` keeps its promise.
 use mathlib.Core.Path.{refl}
 use Rattle.formatting.proofs.Formatting.{all_new}
-use borrow.Author.Rules.{rules}
 use Rattle.formatting.proofs.format.format.Goals as goal
 
 pub returns : goal.returns

@@ -1,10 +1,7 @@
 -- `formatting::format::link_blocks` keeps its promise.
-use borrow.Author.Rules.{rules}
-use mathlib.Core.Path.{◌≡◌, refl, sym, ◌∙◌}
-use Prim.Native.Nat.{◌-◌, ◌≤◌}
+use mathlib.Core.Path.{refl, sym, ◌∙◌}
+use Prim.Native.Nat.{◌-◌}
 use native.Mathlib.Omega.{arith}
-use lib.ListN.{length}
-use Rattle.layout.specs.Calls.{links_from}
 use Rattle.blocks.proofs.Near.{small_same}
 use Rattle.formatting.proofs.Formatting.{link_step, link_end}
 use Rattle.formatting.proofs.format.link_blocks.Goals as goal

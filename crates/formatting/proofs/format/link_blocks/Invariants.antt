@@ -1,12 +1,8 @@
 -- `formatting::format::link_blocks` keeps its promise.
-use borrow.Author.Rules.{rules}
-use mathlib.Core.Path.{◌≡◌, refl, sym, ◌∙◌}
+use mathlib.Core.Path.{◌≡◌}
 use Prim.Native.Nat.{◌-◌, ◌≤◌}
-use native.Mathlib.Omega.{arith}
 use lib.ListN.{length}
 use Rattle.layout.specs.Calls.{links_from}
-use Rattle.blocks.proofs.Near.{small_same}
-use Rattle.formatting.proofs.Formatting.{link_step, link_end}
 use Rattle.formatting.proofs.format.link_blocks.Given as goal
 
 abbrev pub invariant-loop-b : goal.invariant-loop-b

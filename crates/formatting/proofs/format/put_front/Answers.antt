@@ -1,6 +1,5 @@
 -- `formatting::format::put_front` keeps its promise.
 use Rattle.formatting.proofs.Formatting.{front_put}
-use borrow.Author.Rules.{rules}
 use Rattle.formatting.proofs.format.put_front.Goals as goal
 
 pub returns : goal.returns

@@ -1,6 +1,5 @@
 -- `formatting::format::put_header` keeps its promise.
 use Rattle.formatting.proofs.Formatting.{header_put}
-use borrow.Author.Rules.{rules}
 use Rattle.formatting.proofs.format.put_header.Goals as goal
 
 pub returns : goal.returns

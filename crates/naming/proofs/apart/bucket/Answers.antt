@@ -1,11 +1,7 @@
 -- `naming::apart::bucket` keeps its promise.
-use borrow.Author.Rules.{rules}
-use mathlib.Core.Path.{◌≡◌, refl, ◌∙◌}
-use Prim.Native.Nat.{◌-◌, ◌<◌, ◌≤◌}
+use mathlib.Core.Path.{refl, ◌∙◌}
 use native.Mathlib.Nat.{mod-lt}
 use native.Mathlib.Omega.{arith}
-use lib.ListN.{length, drop}
-use Rattle.naming.specs.Buckets.{hash_from}
 use Rattle.naming.proofs.Buckets.{hash_turn, hash_done}
 use Rattle.naming.proofs.apart.bucket.Goals as goal
 

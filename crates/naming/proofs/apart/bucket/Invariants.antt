@@ -1,12 +1,8 @@
 -- `naming::apart::bucket` keeps its promise.
-use borrow.Author.Rules.{rules}
-use mathlib.Core.Path.{◌≡◌, refl, ◌∙◌}
+use mathlib.Core.Path.{◌≡◌}
 use Prim.Native.Nat.{◌-◌, ◌<◌, ◌≤◌}
-use native.Mathlib.Nat.{mod-lt}
-use native.Mathlib.Omega.{arith}
 use lib.ListN.{length, drop}
 use Rattle.naming.specs.Buckets.{hash_from}
-use Rattle.naming.proofs.Buckets.{hash_turn, hash_done}
 use Rattle.naming.proofs.apart.bucket.Given as goal
 
 abbrev pub invariant-loop-i : goal.invariant-loop-i

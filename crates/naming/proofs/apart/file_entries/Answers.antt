@@ -1,16 +1,10 @@
 -- `naming::apart::file_entries` keeps its promise.
 use borrow.Author.Rules.{rules}
-use mathlib.Core.Path.{◌≡◌, refl, sym}
-use Prim.Native.Nat.{◌-◌}
+use mathlib.Core.Path.{refl, sym}
 use native.Mathlib.Omega.{arith}
-use lib.ListN.{length}
-use Rattle.layout.specs.Filing.{entries}
 use Rattle.laws.proofs.Laying.{length-contents}
-use Rattle.filing.specs.Paged.{Paged}
 use Rattle.filing.proofs.Paging.{page_blank, turned_fits, turned_piece}
-use Rattle.naming.specs.Buckets.{Filed}
-use Rattle.naming.specs.Rooted.{bytes_of}
-use Rattle.naming.proofs.Differ.{Rest, rest-start, rest_end, rest_here, rest-met, rest-next}
+use Rattle.naming.proofs.Differ.{rest-start, rest_end, rest_here, rest-met, rest-next}
 use Rattle.naming.proofs.apart.file_entries.Goals as goal
 
 pub loop-at-init : goal.loop-at-init

@@ -1,12 +1,6 @@
 -- `naming::apart::met` keeps its promise.
-use borrow.Author.Rules.{rules}
-use mathlib.Core.Path.{◌≡◌, refl}
-use mathlib.Core.Logic.{◌≢◌}
-use Prim.Native.Nat.{◌≤◌, ◌-◌}
+use mathlib.Core.Path.{refl}
 use native.Mathlib.Omega.{arith}
-use Rattle.layout.specs.Filing.{entries}
-use Rattle.naming.specs.Buckets.{bucket_of, name_at, among}
-use Rattle.naming.specs.Rooted.{bytes_of}
 use Rattle.naming.proofs.Buckets.{met_here, met_less, met_own, met_next, met_none, met-same}
 use Rattle.naming.proofs.apart.met.Goals as goal
 

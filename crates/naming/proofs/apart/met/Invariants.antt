@@ -1,13 +1,10 @@
 -- `naming::apart::met` keeps its promise.
-use borrow.Author.Rules.{rules}
-use mathlib.Core.Path.{◌≡◌, refl}
+use mathlib.Core.Path.{◌≡◌}
 use mathlib.Core.Logic.{◌≢◌}
 use Prim.Native.Nat.{◌≤◌, ◌-◌}
-use native.Mathlib.Omega.{arith}
 use Rattle.layout.specs.Filing.{entries}
 use Rattle.naming.specs.Buckets.{bucket_of, name_at, among}
 use Rattle.naming.specs.Rooted.{bytes_of}
-use Rattle.naming.proofs.Buckets.{met_here, met_less, met_own, met_next, met_none, met-same}
 use Rattle.naming.proofs.apart.met.Given as goal
 
 abbrev pub invariant-loop-left : goal.invariant-loop-left

@@ -1,5 +1,4 @@
 -- `naming::apart::names_apart` keeps its promise.
-use borrow.Author.Rules.{rules}
 use Rattle.naming.proofs.Differ.{none_filed}
 use Rattle.naming.proofs.apart.names_apart.Goals as goal
 

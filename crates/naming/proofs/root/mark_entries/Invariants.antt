@@ -1,14 +1,10 @@
 -- `naming::root::mark_entries` keeps its promise.
-use borrow.Author.Rules.{rules}
-use mathlib.Core.Path.{◌≡◌, refl, sym}
+use mathlib.Core.Path.{◌≡◌}
 use Prim.Native.Nat.{◌-◌}
-use native.Mathlib.Omega.{arith}
 use lib.ListN.{length}
-use Rattle.laws.proofs.Laying.{length-contents}
 use Rattle.filing.specs.Paged.{Paged}
-use Rattle.filing.proofs.Paging.{page_blank, turned_fits, turned_piece}
 use Rattle.naming.specs.Rooted.{bytes_of}
-use Rattle.naming.proofs.Reached.{Left, left_start, left_end, left_stop, left_turn, entry-same, entry-marked, not_both}
+use Rattle.naming.proofs.Reached.{Left}
 use Rattle.naming.proofs.root.mark_entries.Given as goal
 
 abbrev pub invariant-loop-at : goal.invariant-loop-at

@@ -1,8 +1,6 @@
 -- `naming::root::mark_entry` keeps its promise.
-use borrow.Author.Tests.{not-true, not-false}
 use mathlib.Core.Path.{refl}
 use Rattle.naming.proofs.Reached.{entry-cut, entry_bad, entry-met, entry_done, mark_then, fresh_at}
-use borrow.Author.Rules.{rules}
 use Rattle.naming.proofs.root.mark_entry.Goals as goal
 
 pub returns-then-piece-e : goal.returns-then-piece-e
@@ -16,6 +14,6 @@ returns-then-not-mark c = (entry-met _ _ c.read_head-h.ensures.1 _ c.if-piece-e.
 
 pub returns : goal.returns
 returns c = (
-      entry_done _ _ c.read_head-h.ensures.1 _ c.if-piece-e.false _ c.good_name.ensures c.if-not-good_name.false (fresh_at c.args.n c.args.marks.now _ _ c.read_head-h.ensures.0 _ c.mark.ensures.0 c.if-not-mark.false),
-      λ z. mark_then c.args.n c.args.marks.now _ _ _ _ c.mark.ensures.0 c.if-not-mark.false c.read_head-h.ensures.0 c.mark.ensures.1,
-    )
+  entry_done _ _ c.read_head-h.ensures.1 _ c.if-piece-e.false _ c.good_name.ensures c.if-not-good_name.false (fresh_at c.args.n c.args.marks.now _ _ c.read_head-h.ensures.0 _ c.mark.ensures.0 c.if-not-mark.false),
+  λ z. mark_then c.args.n c.args.marks.now _ _ _ _ c.mark.ensures.0 c.if-not-mark.false c.read_head-h.ensures.0 c.mark.ensures.1,
+)

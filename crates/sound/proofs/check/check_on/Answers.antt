@@ -1,8 +1,6 @@
 -- `sound::check::check_on` keeps its promise.
-use borrow.Author.Tests.{not-true, not-false}
 use mathlib.Core.Path.{sym, ◌∙◌}
 use Rattle.sound.proofs.Lowest.{breaks_1, breaks_2, breaks_3, breaks_later, shift-low, small-shape}
-use borrow.Author.Rules.{rules}
 use Rattle.sound.proofs.check.check_on.Goals as goal
 
 pub returns-then-not-rule1 : goal.returns-then-not-rule1

@@ -1,9 +1,7 @@
 -- `sound::check::check_shaped` keeps its promise.
-use borrow.Author.Tests.{not-true, not-false}
 use mathlib.Core.Path.{sym, ◌∙◌}
 use native.Mathlib.Omega.{arith}
 use Rattle.sound.proofs.Lowest.{breaks_4, breaks_5, breaks_6, breaks_7, breaks_8, breaks_none}
-use borrow.Author.Rules.{rules}
 use Rattle.sound.proofs.check.check_shaped.Goals as goal
 
 pub returns-then-not-rule4 : goal.returns-then-not-rule4

@@ -1,11 +1,8 @@
 -- `usage::free::count_marks` keeps its promise.
-use borrow.Author.Rules.{rules}
 use mathlib.Core.Path.{◌≡◌}
 use Prim.Native.Nat.{◌+◌, ◌≤◌}
-use native.Mathlib.Omega.{arith}
 use lib.ListN.{length}
 use Rattle.layout.specs.Marks.{falling_in}
-use Rattle.usage.proofs.Chained.{count_none, count-one, count-done}
 use Rattle.usage.proofs.free.count_marks.Given as goal
 
 abbrev pub invariant-loop-left : goal.invariant-loop-left

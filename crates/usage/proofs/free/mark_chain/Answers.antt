@@ -1,10 +1,8 @@
 -- `usage::free::mark_chain` keeps its promise.
 use borrow.Author.Rules.{rules}
-use borrow.Author.Tests.{not-true, not-false}
-use mathlib.Core.Path.{◌≡◌, refl}
+use mathlib.Core.Path.{refl}
 use native.Mathlib.Omega.{arith}
-use lib.ListN.{length}
-use Rattle.usage.proofs.Chained.{Along, chain_begun, chain-ends, chain_out, chain-turn, chain_stops}
+use Rattle.usage.proofs.Chained.{chain_begun, chain-ends, chain_out, chain-turn, chain_stops}
 use Rattle.usage.proofs.free.mark_chain.Goals as goal
 
 pub overflow_add-left : goal.overflow_add-left

@@ -1,10 +1,7 @@
 -- `usage::free::mark_chain` keeps its promise.
-use borrow.Author.Rules.{rules}
-use borrow.Author.Tests.{not-true, not-false}
-use mathlib.Core.Path.{◌≡◌, refl}
-use native.Mathlib.Omega.{arith}
+use mathlib.Core.Path.{◌≡◌}
 use lib.ListN.{length}
-use Rattle.usage.proofs.Chained.{Along, chain_begun, chain-ends, chain_out, chain-turn, chain_stops}
+use Rattle.usage.proofs.Chained.{Along}
 use Rattle.usage.proofs.free.mark_chain.Given as goal
 
 abbrev pub invariant-loop-left : goal.invariant-loop-left

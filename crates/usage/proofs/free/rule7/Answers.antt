@@ -1,6 +1,5 @@
 -- `usage::free::rule7` keeps its promise.
 use Rattle.usage.proofs.Chained.{chain_apart, some-over, none_over}
-use borrow.Author.Rules.{rules}
 use Rattle.usage.proofs.free.rule7.Goals as goal
 
 pub returns-then-found-eq0 : goal.returns-then-found-eq0

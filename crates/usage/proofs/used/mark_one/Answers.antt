@@ -1,5 +1,4 @@
 -- `usage::used::mark_one` keeps its promise.
-use borrow.Author.Rules.{rules}
 use native.Mathlib.Omega.{arith}
 use Rattle.stream.proofs.Sizes.{data_fits}
 use Rattle.usage.proofs.Uses.{stream-free, stream-used}

@@ -1,13 +1,9 @@
 -- `usage::used::mark_streams` keeps its promise.
-use borrow.Author.Rules.{rules}
-use borrow.Author.Tests.{not-true, not-false}
-use mathlib.Core.Path.{◌≡◌, refl}
+use mathlib.Core.Path.{◌≡◌}
 use Prim.Native.Nat.{◌+◌}
-use native.Mathlib.Omega.{arith}
 use lib.ListN.{length}
 use Rattle.marking.proofs.Walking.{Rest}
 use Rattle.usage.specs.Used.{used_from}
-use Rattle.usage.proofs.Uses.{used_turn, used_stop, used-done}
 use Rattle.usage.proofs.used.mark_streams.Given as goal
 
 abbrev pub invariant-loop-left : goal.invariant-loop-left

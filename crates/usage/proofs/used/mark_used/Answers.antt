@@ -1,6 +1,4 @@
 -- `usage::used::mark_used` keeps its promise.
-use borrow.Author.Tests.{not-true, not-false}
-use borrow.Author.Rules.{rules}
 use native.Mathlib.Omega.{arith}
 use Rattle.stream.proofs.Sizes.{data_fits}
 use Rattle.usage.proofs.Uses.{all_stops, all_goes}

@@ -1,5 +1,4 @@
 -- `usage::used::rule6` keeps its promise.
-use borrow.Author.Rules.{rules}
 use mathlib.Core.Path.{refl}
 use native.Mathlib.Omega.{arith}
 use Rattle.tables.proofs.Paged.{slots-few, stream-same}
@@ -11,6 +10,6 @@ mark_used-requires c = (c.requires.0, omega (arith, slots-few _ _ _ c.requires.1
 
 pub returns : goal.returns
 returns c = (
-      rule6_is _ _ _ (stream-same _ _ c.requires.2 _ _ refl) _ _ _ _ c.descriptors-n.ensures c.requires.3 c.mark_used.ensures,
-      in_use_lem _ _ _ (stream-same _ _ c.requires.2 _ _ refl) _ _ _ _ c.descriptors-n.ensures c.requires.3 c.mark_used.ensures,
-    )
+  rule6_is _ _ _ (stream-same _ _ c.requires.2 _ _ refl) _ _ _ _ c.descriptors-n.ensures c.requires.3 c.mark_used.ensures,
+  in_use_lem _ _ _ (stream-same _ _ c.requires.2 _ _ refl) _ _ _ _ c.descriptors-n.ensures c.requires.3 c.mark_used.ensures,
+)
