@@ -3,7 +3,7 @@ use mathlib.Core.Path.{◌≡◌}
 use mathlib.Core.Logic.{◌≢◌, inl, inr}
 use mathlib.Core.Bool.{not}
 use mathlib.Core.List.{List, [], ◌∷◌}
-use Prim.Native.Nat.{ℕ, zero, suc, ◌*◌, ◌-◌, min, ◌≤◌, ◌<◌}
+use Prim.Native.Nat.{ℕ, zero, suc, ◌*◌, min, ◌≤◌, ◌<◌}
 use native.Mathlib.Nat.{mul-le-mul_right}
 use native.Mathlib.Decide.{dec_le, ℕ_discrete}
 use native.Mathlib.Omega.{arith}
@@ -25,7 +25,6 @@ use Rattle.laws.proofs.Frees.{Frees}
 use Rattle.laws.proofs.Lives.{lives_in, in_lives, lives-distinct, those-few}
 use Rattle.laws.proofs.State.{lives_of, own, owners, Core}
 use Rattle.laws.proofs.Cores.{P-has, core_good, core_frees, owner_stream}
-use Rattle.laws.proofs.Moves as moves
 use Rattle.acts.specs.Full.{full_table}
 use Rattle.layout.specs.declared.Shape.{Shape}
 

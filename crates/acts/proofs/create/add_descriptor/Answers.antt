@@ -2,7 +2,6 @@
 use native.Mathlib.Omega.{arith}
 use Rattle.blocks.proofs.Near.{small_same}
 use Rattle.acts.proofs.Creating.{slots-low, one_more}
-use borrow.Author.Rules.{rules}
 use Rattle.acts.proofs.create.add_descriptor.Goals as goal
 
 pub overflow_mul-n : goal.overflow_mul-n

@@ -1,6 +1,5 @@
 -- `acts::create::create` keeps its promise.
 use Rattle.acts.proofs.Creating.{made}
-use borrow.Author.Rules.{rules}
 use Rattle.acts.proofs.create.create.Goals as goal
 
 pub returns : goal.returns

@@ -3,7 +3,6 @@ use native.Mathlib.Omega.{arith}
 use Rattle.stream.proofs.Sizes.{table_fits}
 use Rattle.filing.proofs.Editing.{size_fits}
 use Rattle.acts.proofs.Creating.{wants-one, wants_two}
-use borrow.Author.Rules.{rules}
 use Rattle.acts.proofs.create.create_wants.Goals as goal
 
 pub overflow_add-d : goal.overflow_add-d

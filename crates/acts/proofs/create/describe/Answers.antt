@@ -1,6 +1,5 @@
 -- `acts::create::describe` keeps its promise.
 use Rattle.acts.proofs.Creating.{described_more, described-free, first-low}
-use borrow.Author.Rules.{rules}
 use Rattle.acts.proofs.create.describe.Goals as goal
 
 pub reuse_descriptor-requires : goal.reuse_descriptor-requires

@@ -1,6 +1,5 @@
 -- `acts::create::full` keeps its promise.
 use Rattle.acts.proofs.Creating.{not_full, full_by_count}
-use borrow.Author.Rules.{rules}
 use Rattle.acts.proofs.create.full.Goals as goal
 
 pub returns-then-table_number : goal.returns-then-table_number

@@ -1,6 +1,5 @@
 -- `acts::create::new_index` keeps its promise.
 use Rattle.acts.proofs.Creating.{index_more, index-free}
-use borrow.Author.Rules.{rules}
 use Rattle.acts.proofs.create.new_index.Goals as goal
 
 pub returns-then-first : goal.returns-then-first

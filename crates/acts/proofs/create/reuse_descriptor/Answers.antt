@@ -1,6 +1,5 @@
 -- `acts::create::reuse_descriptor` keeps its promise.
 use Rattle.acts.proofs.Creating.{off_chain}
-use borrow.Author.Rules.{rules}
 use Rattle.acts.proofs.create.reuse_descriptor.Goals as goal
 
 pub returns : goal.returns

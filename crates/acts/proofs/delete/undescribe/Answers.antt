@@ -1,6 +1,5 @@
 -- `acts::delete::undescribe` keeps its promise.
 use Rattle.acts.proofs.Deleting.{freed}
-use borrow.Author.Rules.{rules}
 use Rattle.acts.proofs.delete.undescribe.Goals as goal
 
 pub returns : goal.returns

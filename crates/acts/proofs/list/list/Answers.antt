@@ -2,7 +2,6 @@
 use native.Mathlib.Omega.{arith}
 use Rattle.filing.proofs.Editing.{size_fits}
 use Rattle.acts.proofs.Naming.{row_is, name_here, name_none}
-use borrow.Author.Rules.{rules}
 use Rattle.acts.proofs.list.list.Goals as goal
 
 pub nth_entry-row-requires : goal.nth_entry-row-requires

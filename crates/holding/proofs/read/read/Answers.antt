@@ -1,7 +1,6 @@
 -- `holding::read::read` keeps its promise.
 use Rattle.holding.proofs.Reading.{read-bytes, read_count}
 use lib.ListN.{length}
-use borrow.Author.Rules.{rules}
 use Rattle.holding.proofs.read.read.Goals as goal
 
 pub returns : goal.returns

@@ -1,6 +1,5 @@
 -- `holding::read::size` keeps its promise.
 use Rattle.holding.proofs.Reading.{size_is}
-use borrow.Author.Rules.{rules}
 use Rattle.holding.proofs.read.size.Goals as goal
 
 pub returns : goal.returns

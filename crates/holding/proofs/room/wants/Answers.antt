@@ -2,7 +2,6 @@
 use native.Mathlib.Omega.{arith}
 use Rattle.blocks.proofs.Near.{fan_four}
 use Rattle.holding.proofs.Reading.{data_low, sum_low, wants_is}
-use borrow.Author.Rules.{rules}
 use Rattle.holding.proofs.room.wants.Goals as goal
 
 pub overflow_add-d : goal.overflow_add-d

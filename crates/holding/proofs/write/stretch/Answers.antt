@@ -1,6 +1,5 @@
 -- `holding::write::stretch` keeps its promise.
 use Rattle.holding.proofs.Writing.{stretched, long-enough}
-use borrow.Author.Rules.{rules}
 use Rattle.holding.proofs.write.stretch.Goals as goal
 
 pub returns-then-t-n : goal.returns-then-t-n

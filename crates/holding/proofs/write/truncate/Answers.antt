@@ -1,6 +1,5 @@
 -- `holding::write::truncate` keeps its promise.
 use Rattle.holding.proofs.Writing.{cut_none, cut-some}
-use borrow.Author.Rules.{rules}
 use Rattle.holding.proofs.write.truncate.Goals as goal
 
 pub returns-then-n-t : goal.returns-then-n-t

@@ -1,7 +1,6 @@
 -- `holding::write::write` keeps its promise.
 use mathlib.Core.Path.{refl}
 use Rattle.holding.proofs.Writing.{write_is}
-use borrow.Author.Rules.{rules}
 use Rattle.holding.proofs.write.write.Goals as goal
 
 pub returns : goal.returns

@@ -1,6 +1,5 @@
 -- `samples::cells::count_up` keeps its promise and ends: its counter falls to 0.
 use Prim.Native.Nat.{◌≤◌}
-use borrow.Author.Rules.{rules}
 use lib.ListN.{length}
 use mathlib.Core.Path.{◌≡◌}
 use Rattle.samples.proofs.cells.count_up.Given as goal

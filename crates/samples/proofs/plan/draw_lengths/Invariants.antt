@@ -1,6 +1,5 @@
 -- `samples::plan::draw_lengths` keeps its promise and ends: its counter falls to 0.
 use Prim.Native.Nat.{◌≤◌}
-use borrow.Author.Rules.{rules}
 use lib.ListN.{length}
 use mathlib.Core.Path.{◌≡◌}
 use Rattle.samples.proofs.plan.draw_lengths.Given as goal

@@ -1,6 +1,5 @@
 -- `samples::put::put_in` keeps its promise and ends: its counter falls to 0.
 use Prim.Native.Nat.{◌≤◌}
-use borrow.Author.Rules.{rules}
 use lib.ListN.{length}
 use mathlib.Core.Path.{◌≡◌}
 use Rattle.samples.proofs.put.put_in.Given as goal

@@ -1,6 +1,5 @@
 -- `samples::rows::row` keeps its promise and ends: its counter falls to 0.
 use Prim.Native.Nat.{◌≤◌}
-use borrow.Author.Rules.{rules}
 use Rattle.samples.proofs.rows.row.Given as goal
 
 abbrev pub invariant-loop-left : goal.invariant-loop-left

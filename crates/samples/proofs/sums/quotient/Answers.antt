@@ -1,5 +1,4 @@
 -- `samples::sums::quotient` keeps its promise.
-use borrow.Author.Rules.{rules}
 use native.Mathlib.Nat.{div-le_self}
 use Rattle.samples.proofs.sums.quotient.Goals as goal
 

@@ -1,5 +1,4 @@
 -- `samples::sums::rest` keeps its promise.
-use borrow.Author.Rules.{rules}
 use native.Mathlib.Nat.{mod-le}
 use Rattle.samples.proofs.sums.rest.Goals as goal
 

@@ -1,6 +1,5 @@
 -- `samples::sums::times` keeps its promise.
 use Prim.Native.Nat.{◌≤◌}
-use borrow.Author.Rules.{rules}
 use native.Mathlib.Nat.{mul-le-mul}
 use native.Mathlib.Omega.{arith}
 use Rattle.samples.proofs.sums.times.Goals as goal
