@@ -28,8 +28,8 @@ not_below a b = elim (dec_lt a b) [
 ]
 
 -- an entry's number
-pub row_of : (c : List ℕ) (k : ℕ) (r : Row) → r ≡ numbered (root_of c) k
+pub row_of_lem : (c : List ℕ) (k : ℕ) (r : Row) → r ≡ numbered (root_of c) k
     → (not r.there ≡ leb (length (root_of c)) k) × (r.length ≡ length (get_or (root_of c) k nothing).name) × (r.index ≡ (get_or (root_of c) k nothing).index)
-row_of c k r e =
+row_of_lem c k r e =
     let g = e ∙ numbered_is (root_of c) k in
     (ap (λ (x : Row). not x.there) g ∙ not_below k (length (root_of c)), ap (λ (x : Row). x.length) g, ap (λ (x : Row). x.index) g)

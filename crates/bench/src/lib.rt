@@ -1,6 +1,7 @@
 // What the benchmark in bench/ calls: functions of the layers from memory to sound, each under a name of its own and with its
 // own promise. Where one has a `requires`, the benchmark meets it: its cards are whole, and it made every number itself.
 #![tactic(auto)]
+
 ghost use Rattle.std.specs.Prelude.{◌≡◌, ◌+◌, ◌/◌, ◌^◌, ◌<◌, ◌≤◌, length, take, drop, replicate};
 ghost use Rattle.layout.specs.Bytes.{over, matches};
 ghost use Rattle.layout.specs.Blocks.{node, first_free, enough, taken, grown, surplus, released};

@@ -1,5 +1,6 @@
 // The calls on a stream's bytes: size, read, write, truncate.
 #![tactic(auto)]
+
 ghost use Rattle.std.specs.Prelude.{◌≡◌, max};
 ghost use Rattle.layout.specs.Promises.{Sizes, Reads, Writes, Truncates};
 

@@ -1,6 +1,7 @@
 // What the ten calls begin with: the check, how the card is cut, and where the name is. A call looks for what it must refuse, in
 // the order of the list, and then does its act. None asks anything of its caller.
 #![tactic(auto)]
+
 ghost use Rattle.std.specs.Prelude.{◌≡◌};
 ghost use Rattle.front.specs.Fronts.{examined_of, sought_of};
 

@@ -22,9 +22,9 @@ module _ (o : Outcome) (p : Packed o) where
   unfolding word
   word_low = omega (arith, p.number, p.rule_or_length, p.count_or_size)
 
-  number_of : word o % 256 ≡ o.number
+  number_of_lem : word o % 256 ≡ o.number
   unfolding word
-  number_of =
+  number_of_lem =
       let r : word o % 256 < 256 = mod-lt (word o) (omega arith) in
       omega (arith, p.number, div-add-mod' (word o) 256)
 
@@ -47,7 +47,7 @@ module _ (o : Outcome) (p : Packed o) where
 
   -- whoever has the word has the numbers
   pub parted : (word o % 256 ≡ o.number) × (word o / 256 % 256 ≡ small o) × (word o / 65536 ≡ large o)
-  parted = (number_of, small_of, large_of)
+  parted = (number_of_lem, small_of, large_of)
 
 -- ---- refusals
 

@@ -1,5 +1,6 @@
 // The store under C names: the ten calls, each with one word for its answer. A slice is handed over as pointer and length.
 #![tactic(auto)]
+
 ghost use Rattle.std.specs.Prelude.{◌≡◌};
 ghost use Rattle.layout.specs.Calls.{format, check, room, create, write, read, truncate, delete, size, list};
 ghost use Rattle.layout.specs.Words.{word};

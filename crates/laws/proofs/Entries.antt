@@ -15,7 +15,7 @@ use Rattle.laws.proofs.Picks.{is_true, is_false}
 use Rattle.laws.proofs.Lists.{In, Distinct, in_map}
 use Rattle.laws.proofs.Tests.{Is, is_both, is_eqb, is_ltb, is_yes, is_same}
 use Rattle.laws.proofs.Removal.{in_at, map-take, map-drop}
-use Rattle.laws.proofs.Listing.{Key, key, keys, span, Listed, entries-listed, listed-entries, listed-append, listed-cut, listed-one, length-entry, entry_at}
+use Rattle.laws.proofs.Listing.{Key, key, keys, span, Listed, entries-listed, listed-entries, listed-append, listed-cut, listed-one, length-entry, entry_at_lem}
 
 -- entry number i
 abbrev pub entry : List ℕ → ℕ → Entry
@@ -50,7 +50,7 @@ module _ (r : List ℕ) (i : ℕ) (h : T (reads r)) (l : i < length (entries r))
 
   -- and their bytes
   cut : (Listed (take (entry r i).at r) (take i (keys r))) × (Listed (drop (entry r i).at r) (key (entry r i) ∷ drop (suc i) (keys r))) × ((entry r i).at ≤ length r)
-  cut = listed-cut r (take i (keys r)) (key (entry r i) ∷ drop (suc i) (keys r)) (entry r i).at (entry_at r i h l) (rw parted at (entries-listed r h))
+  cut = listed-cut r (take i (keys r)) (key (entry r i) ∷ drop (suc i) (keys r)) (entry r i).at (entry_at_lem r i h l) (rw parted at (entries-listed r h))
 
   -- it ends within the directory
   pub entry-ends : (entry r i).at + 6 + length (entry r i).name ≤ length r

@@ -201,6 +201,6 @@ entry_from (suc g) r at (suc i) h l = elim (dec_le (length r) at) [
       rw (e, s.long) (omega (arith, entry_from g r (at + 6 + name_length r at) i s.rest (omega arith))))
 ]
 
-pub entry_at : (r : List ℕ) (i : ℕ) → T (reads r) → i < length (entries r) → (get_or (entries r) i nothing).at ≡ total span (take i (keys r))
+pub entry_at_lem : (r : List ℕ) (i : ℕ) → T (reads r) → i < length (entries r) → (get_or (entries r) i nothing).at ≡ total span (take i (keys r))
 unfolding reads entries
-entry_at r i h l = entry_from (length r) r 0 i h l ∙ rw (← map-take, total_map) (omega arith)
+entry_at_lem r i h l = entry_from (length r) r 0 i h l ∙ rw (← map-take, total_map) (omega arith)

@@ -16,7 +16,7 @@ use Rattle.layout.specs.Calls.{root_of, list}
 use Rattle.laws.proofs.Tests.{is_leb}
 use Rattle.filing.specs.Located.{numbered}
 use Rattle.acts.proofs.Fitting.{live-low}
-use Rattle.acts.proofs.Rooted.{row_of}
+use Rattle.acts.proofs.Rooted.{row_of_lem}
 use Rattle.acts.proofs.Sound.{index_live}
 use Rattle.front.proofs.Outcomes.{pass, stop, none, past_1}
 use Rattle.front.proofs.Passing.{Passed, whole}
@@ -36,7 +36,7 @@ row-root c s k t r e f = f ∙ rw e
 
 module _ {c : List ℕ} {s : Shape} (p : Passed c s) (k : ℕ) (r : Row) (w : r ≡ numbered (entries_of c s 0) k) (tray : List ℕ) where
   row : (not r.there ≡ leb (length (root_of c)) k) × (r.length ≡ length (get_or (root_of c) k nothing).name) × (r.index ≡ (get_or (root_of c) k nothing).index)
-  row = row_of c k r (w ∙ rw p.cut)
+  row = row_of_lem c k r (w ∙ rw p.cut)
 
   pub list_past : r.there ≡ false → refused 5 0 c tray ≡ list c k tray
   unfolding list

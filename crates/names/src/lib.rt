@@ -1,5 +1,6 @@
 // The calls on the root: create, delete, list.
 #![tactic(auto)]
+
 ghost use Rattle.layout.specs.Promises.{Creates, Deletes, Lists};
 
 use acts::create::{create_wants, full};

@@ -1,5 +1,6 @@
 // The calls on a whole card: format, check, room.
 #![tactic(auto)]
+
 ghost use Rattle.std.specs.Prelude.{◌≤◌, ◌≡◌};
 ghost use Rattle.layout.specs.Header.{shaped, good_shape};
 ghost use Rattle.layout.specs.Promises.{Formats, Checks, Rooms};

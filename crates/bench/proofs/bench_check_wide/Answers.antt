@@ -1,5 +1,4 @@
 -- `bench::bench_check_wide` keeps its promise.
-use borrow.Author.Rules.{rules}
 use mathlib.Core.Path.{refl}
 use Prim.Native.Nat.{ℕ}
 use native.Mathlib.Omega.{arith}

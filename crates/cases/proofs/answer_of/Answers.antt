@@ -1,5 +1,4 @@
 -- `cases::answer_of` keeps its promise.
-use borrow.Author.Rules.{rules}
 use lib.ListN.{length-take}
 use native.Mathlib.Omega.{arith}
 use Rattle.cases.proofs.answer_of.Goals as goal

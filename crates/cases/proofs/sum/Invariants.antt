@@ -1,6 +1,5 @@
 -- `cases::sum` keeps its promise and ends: its counter falls to 0.
 use Prim.Native.Nat.{◌<◌, ◌≤◌}
-use borrow.Author.Rules.{rules}
 use Rattle.cases.proofs.sum.Given as goal
 
 abbrev pub invariant-loop-left : goal.invariant-loop-left

@@ -1,6 +1,5 @@
 -- `contents::read` keeps its promise.
 use mathlib.Core.Path.{refl}
-use borrow.Author.Rules.{rules}
 use Rattle.layout.specs.Promises.{Reads}
 use Rattle.layout.specs.Calls.{read}
 use Rattle.front.proofs.Passing.{asked}

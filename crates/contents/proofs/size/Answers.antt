@@ -1,6 +1,5 @@
 -- `contents::size` keeps its promise.
 use mathlib.Core.Path.{refl}
-use borrow.Author.Rules.{rules}
 use Rattle.layout.specs.Promises.{Sizes}
 use Rattle.layout.specs.Calls.{size}
 use Rattle.front.proofs.Passing.{asked}

@@ -1,6 +1,5 @@
 -- `contents::truncate` keeps its promise.
 use mathlib.Core.Path.{refl}
-use borrow.Author.Rules.{rules}
 use native.Mathlib.Omega.{arith}
 use Rattle.layout.specs.Promises.{Truncates}
 use Rattle.layout.specs.Calls.{truncate}

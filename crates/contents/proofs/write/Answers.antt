@@ -1,6 +1,4 @@
 -- `contents::write` keeps its promise.
-use borrow.Author.Tests.{not-true, not-false}
-use borrow.Author.Rules.{rules}
 use mathlib.Core.Path.{refl, ap}
 use native.Mathlib.Omega.{arith}
 use Rattle.layout.specs.Promises.{Writes}

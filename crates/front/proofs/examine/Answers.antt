@@ -2,7 +2,6 @@
 use native.Mathlib.Omega.{arith}
 use Rattle.front.proofs.Passing.{rule-low, shift_fits}
 use Rattle.front.proofs.Fronted.{examined_damaged, examined_sound}
-use borrow.Author.Rules.{rules}
 use Rattle.front.proofs.examine.Goals as goal
 
 pub overflow_cast-result : goal.overflow_cast-result

@@ -1,5 +1,4 @@
 -- `lamporchid::lamporchid_check` keeps its promise.
-use borrow.Author.Rules.{rules}
 use Rattle.lamporchid.proofs.Told.{check_told}
 use Rattle.lamporchid.proofs.lamporchid_check.Goals as goal
 

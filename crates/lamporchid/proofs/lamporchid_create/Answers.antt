@@ -1,5 +1,4 @@
 -- `lamporchid::lamporchid_create` keeps its promise.
-use borrow.Author.Rules.{rules}
 use Rattle.lamporchid.proofs.Told.{create_told}
 use Rattle.lamporchid.proofs.lamporchid_create.Goals as goal
 

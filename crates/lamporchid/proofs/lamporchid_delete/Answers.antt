@@ -1,5 +1,4 @@
 -- `lamporchid::lamporchid_delete` keeps its promise.
-use borrow.Author.Rules.{rules}
 use Rattle.lamporchid.proofs.Told.{delete_told}
 use Rattle.lamporchid.proofs.lamporchid_delete.Goals as goal
 

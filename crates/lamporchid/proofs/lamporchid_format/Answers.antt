@@ -1,5 +1,4 @@
 -- `lamporchid::lamporchid_format` keeps its promise.
-use borrow.Author.Rules.{rules}
 use Rattle.lamporchid.proofs.Told.{format_told}
 use Rattle.lamporchid.proofs.lamporchid_format.Goals as goal
 

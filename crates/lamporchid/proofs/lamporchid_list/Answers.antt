@@ -1,5 +1,4 @@
 -- `lamporchid::lamporchid_list` keeps its promise.
-use borrow.Author.Rules.{rules}
 use Rattle.lamporchid.proofs.Told.{list-low, list_told}
 use Rattle.lamporchid.proofs.lamporchid_list.Goals as goal
 

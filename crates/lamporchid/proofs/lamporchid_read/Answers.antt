@@ -1,5 +1,4 @@
 -- `lamporchid::lamporchid_read` keeps its promise.
-use borrow.Author.Rules.{rules}
 use Rattle.lamporchid.proofs.Told.{read_low, read_told}
 use Rattle.lamporchid.proofs.lamporchid_read.Goals as goal
 

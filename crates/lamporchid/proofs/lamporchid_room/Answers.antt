@@ -1,5 +1,4 @@
 -- `lamporchid::lamporchid_room` keeps its promise.
-use borrow.Author.Rules.{rules}
 use Rattle.lamporchid.proofs.Told.{room-low, room_told}
 use Rattle.lamporchid.proofs.lamporchid_room.Goals as goal
 

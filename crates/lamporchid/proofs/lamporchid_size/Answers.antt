@@ -1,5 +1,4 @@
 -- `lamporchid::lamporchid_size` keeps its promise.
-use borrow.Author.Rules.{rules}
 use Rattle.lamporchid.proofs.Told.{size_low, size_told}
 use Rattle.lamporchid.proofs.lamporchid_size.Goals as goal
 

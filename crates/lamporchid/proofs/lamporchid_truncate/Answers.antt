@@ -1,5 +1,4 @@
 -- `lamporchid::lamporchid_truncate` keeps its promise.
-use borrow.Author.Rules.{rules}
 use Rattle.lamporchid.proofs.Told.{truncate_told}
 use Rattle.lamporchid.proofs.lamporchid_truncate.Goals as goal
 

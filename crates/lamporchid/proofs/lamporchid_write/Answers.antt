@@ -1,5 +1,4 @@
 -- `lamporchid::lamporchid_write` keeps its promise.
-use borrow.Author.Rules.{rules}
 use Rattle.lamporchid.proofs.Told.{write_low, write_told}
 use Rattle.lamporchid.proofs.lamporchid_write.Goals as goal
 

@@ -1,5 +1,4 @@
 -- `names::create` keeps its promise.
-use borrow.Author.Tests.{not-true, not-false}
 use borrow.Author.Rules.{rules}
 use mathlib.Core.Path.{refl}
 use Rattle.layout.specs.Promises.{Creates}

@@ -1,5 +1,4 @@
 -- `whole::check` keeps its promise.
-use borrow.Author.Rules.{rules}
 use mathlib.Core.Path.{refl, ◌∙◌}
 use Rattle.layout.specs.Promises.{Checks}
 use Rattle.layout.specs.Calls.{check}

@@ -1,5 +1,4 @@
 -- `whole::cut` keeps its promise.
-use borrow.Author.Rules.{rules}
 use native.Mathlib.Omega.{arith}
 use Rattle.heading.proofs.Heading.{power-some}
 use Rattle.whole.proofs.Shaping.{cut_is}

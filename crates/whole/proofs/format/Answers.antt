@@ -1,6 +1,4 @@
 -- `whole::format` keeps its promise.
-use borrow.Author.Tests.{not-true, not-false}
-use borrow.Author.Rules.{rules}
 use Rattle.layout.specs.Promises.{Formats}
 use Rattle.whole.proofs.Shaping.{shape-refused, new_fits, shift_fits, formatted_is}
 use Rattle.whole.proofs.format.Goals as goal

@@ -1,5 +1,4 @@
 -- `whole::good_shape` keeps its promise.
-use borrow.Author.Rules.{rules}
 use Rattle.heading.proofs.Heading.{power-some}
 use Rattle.whole.proofs.Shaping.{shift-low, shift-high, no_header, rest_part, rest_none, rest-last}
 use Rattle.whole.proofs.good_shape.Goals as goal

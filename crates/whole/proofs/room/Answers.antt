@@ -4,7 +4,6 @@ use Rattle.layout.specs.Promises.{Rooms}
 use Rattle.layout.specs.Calls.{room}
 use Rattle.front.proofs.Fronted.{refused-damaged, sound_of, free_of_lem}
 use Rattle.whole.proofs.Counting.{room-done}
-use borrow.Author.Rules.{rules}
 use Rattle.whole.proofs.room.Goals as goal
 
 pub returns-in-Damaged : goal.returns-in-Damaged

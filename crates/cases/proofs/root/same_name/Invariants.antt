@@ -1,6 +1,5 @@
 -- `cases::root::same_name` keeps its promise and ends: its counter falls to 0.
 use Prim.Native.Nat.{◌≤◌}
-use borrow.Author.Rules.{rules}
 use lib.ListN.{length}
 use mathlib.Core.Path.{◌≡◌}
 use Rattle.cases.proofs.root.same_name.Given as goal

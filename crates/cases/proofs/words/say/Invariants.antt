@@ -1,6 +1,5 @@
 -- `cases::words::say` is safe and ends: its counter falls to 0.
 use Prim.Native.Nat.{◌≤◌}
-use borrow.Author.Rules.{rules}
 use lib.ListN.{length}
 use Rattle.cases.proofs.words.say.Given as goal
 

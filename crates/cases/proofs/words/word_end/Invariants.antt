@@ -1,6 +1,5 @@
 -- `cases::words::word_end` keeps its promise.
 use Prim.Native.Nat.{◌-◌, min, ◌≤◌}
-use borrow.Author.Rules.{rules}
 use lib.ListN.{length}
 use mathlib.Core.Path.{◌≡◌}
 use Rattle.cases.proofs.words.word_end.Given as goal

@@ -1,5 +1,4 @@
 -- `lamporchid::pack::counted_word` keeps its promise.
-use borrow.Author.Rules.{rules}
 use native.Mathlib.Omega.{arith}
 use Rattle.lamporchid.proofs.Cased.{count_packs, count_fits, counted-refused}
 use Rattle.lamporchid.proofs.pack.counted_word.Goals as goal

@@ -1,5 +1,4 @@
 -- `lamporchid::pack::done_word` keeps its promise.
-use borrow.Author.Rules.{rules}
 use Rattle.lamporchid.proofs.Cased.{done_packs, done_refused}
 use Rattle.lamporchid.proofs.pack.done_word.Goals as goal
 

@@ -1,5 +1,4 @@
 -- `lamporchid::pack::listed_word` keeps its promise.
-use borrow.Author.Rules.{rules}
 use native.Mathlib.Omega.{arith}
 use Rattle.lamporchid.proofs.Cased.{entry_packs, entry_fits, listed-refused}
 use Rattle.lamporchid.proofs.pack.listed_word.Goals as goal

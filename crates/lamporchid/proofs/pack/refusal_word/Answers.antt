@@ -1,5 +1,4 @@
 -- `lamporchid::pack::refusal_word` keeps its promise.
-use borrow.Author.Rules.{rules}
 use Rattle.lamporchid.proofs.pack.refusal_word.Goals as goal
 
 pub returns-in-Damaged : goal.returns-in-Damaged

@@ -1,5 +1,4 @@
 -- `lamporchid::pack::sized_word` keeps its promise.
-use borrow.Author.Rules.{rules}
 use native.Mathlib.Omega.{arith}
 use Rattle.lamporchid.proofs.Cased.{size_packs, size_fits, sized-refused}
 use Rattle.lamporchid.proofs.pack.sized_word.Goals as goal

@@ -1,5 +1,4 @@
 -- `runs::calls::answered` keeps its promise.
-use borrow.Author.Rules.{rules}
 use lib.ListN.{length-take}
 use native.Mathlib.Omega.{arith}
 use Rattle.runs.proofs.calls.answered.Goals as goal

@@ -1,5 +1,4 @@
 -- `runs::calls::shown_on` keeps its promise.
-use borrow.Author.Rules.{rules}
 use lib.ListN.{length-take}
 use native.Mathlib.Omega.{arith}
 use Rattle.runs.proofs.calls.shown_on.Goals as goal

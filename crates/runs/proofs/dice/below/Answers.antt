@@ -1,5 +1,4 @@
 -- `runs::dice::below` keeps its promise.
-use borrow.Author.Rules.{rules}
 use native.Mathlib.Nat.{mod-le}
 use native.Mathlib.Omega.{arith}
 use Rattle.runs.proofs.dice.below.Goals as goal

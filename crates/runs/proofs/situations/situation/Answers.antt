@@ -1,5 +1,4 @@
 -- `runs::situations::situation` keeps its promise.
-use borrow.Author.Rules.{rules}
 use lib.ListN.{length-take}
 use native.Mathlib.Omega.{arith}
 use Rattle.runs.proofs.situations.situation.Goals as goal

@@ -1,6 +1,5 @@
 -- `runs::situations::turns` keeps its promise and ends: its counter falls to 0.
 use Prim.Native.Nat.{◌≤◌}
-use borrow.Author.Rules.{rules}
 use lib.ListN.{length}
 use mathlib.Core.Path.{◌≡◌}
 use Rattle.runs.proofs.situations.turns.Given as goal

@@ -1,6 +1,5 @@
 -- `runs::sums::times` keeps its promise.
 use Prim.Native.Nat.{◌≤◌}
-use borrow.Author.Rules.{rules}
 use native.Mathlib.Nat.{mul-le-mul}
 use native.Mathlib.Omega.{arith}
 use Rattle.runs.proofs.sums.times.Goals as goal
