@@ -8,8 +8,8 @@ mod entries;
 mod forms;
 mod header;
 mod own;
-mod pyramids;
 mod root;
+mod stream_pyramids;
 mod words;
 
 ghost use Rattle.std.specs.Prelude.{◌<◌, ◌≤◌};
@@ -36,7 +36,7 @@ fn damage(plan: &mut [u8], card: &mut [u8], rule: usize, clause: usize) {
         3 => header::break_3(plan, card, clause),
         4 => own::break_4(plan, card, clause),
         5 => descriptors::break_5(plan, card, clause),
-        6 => pyramids::break_6(plan, card, clause),
+        6 => stream_pyramids::break_6(plan, card, clause),
         7 => chain::break_7(plan, card, clause),
         _ => root::break_8(plan, card, clause),
     }
