@@ -10,7 +10,8 @@
 //! The [`generator`] holds what tests and other programs share: the dice, plain lists, random
 //! runs, the card as lists, scrambled cards and damage. The [`cases`] are damaged and scrambled
 //! cards by a description of their own, which the proved check is asked about too; the [`runs`] are
-//! rows of calls by the same page, which the proved store makes too.
+//! rows of calls by the same page, which the proved store makes too. The [`cards`] are those of earlier
+//! versions, which every later one is held to.
 
 #![forbid(unsafe_code)]
 #![warn(missing_docs)]
@@ -18,6 +19,7 @@
 pub mod answer;
 pub mod bytes;
 pub mod calls;
+pub mod cards;
 pub mod cases;
 pub mod chain;
 pub mod check;
@@ -28,6 +30,7 @@ pub mod pyramid;
 pub mod runs;
 pub mod shape;
 pub mod streams;
+pub mod sum;
 pub mod table;
 
 pub use answer::{Outcome, Refusal};
