@@ -1,17 +1,12 @@
 -- Growth, step by step as code does it.
-use mathlib.Core.Path.{◌≡◌, refl, sym, ap, ◌∙◌}
+use mathlib.Core.Path.{◌≡◌, refl}
 use mathlib.Core.List.{List}
-use Prim.Native.Nat.{ℕ, zero, suc, ◌+◌, ◌-◌, ◌%◌, ◌≤◌, ◌<◌}
-use native.Mathlib.Numerals.{add-one, sub-one}
+use Prim.Native.Nat.{ℕ, zero, suc, ◌+◌, ◌≤◌, ◌<◌}
+use native.Mathlib.Numerals.{add-one}
 use native.Mathlib.Omega.{arith}
-use lib.ListN.{length}
-use borrow.Author.Tests.{lt-ltb, le-ltb, eq-eqb, ne_eqb}
-use Rattle.layout.specs.Bytes.{put}
-use Rattle.layout.specs.Pyramid.{height, above, missing}
-use Rattle.layout.specs.Blocks.{fan, slot_place, first_free, taken, node, hooked, hung, Grown, raised, rooted, grown_one, grown, lowered_top}
-use Rattle.laws.proofs.ByteLaws.{length-put}
+use Rattle.layout.specs.Pyramid.{height}
+use Rattle.layout.specs.Blocks.{fan, first_free, hooked, hung, raised, rooted, grown_one, grown}
 use Rattle.laws.proofs.Levels.{height-suc}
-use Rattle.laws.proofs.Lengths.{length_taken}
 use Rattle.layout.specs.declared.Shape.{Shape}
 
 -- ---- one below the other

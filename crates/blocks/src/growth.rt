@@ -62,7 +62,11 @@ fn grow_one(card: &mut [u8], s: Shape, top: usize, d: usize, before: usize, afte
     if d == 0 {
         return take_block(card, s);
     }
-    let above = if before < after { raise(card, s, top) } else { top };
+    let above = if before < after {
+        raise(card, s, top)
+    } else {
+        top
+    };
     root(card, s, above, after, d);
     above
 }

@@ -1,8 +1,6 @@
 -- `blocks::growth::grow` keeps its promise.
-use borrow.Author.Rules.{rules}
-use mathlib.Core.Path.{refl, ap, ◌∙◌}
+use mathlib.Core.Path.{ap, ◌∙◌}
 use native.Mathlib.Omega.{arith}
-use Rattle.blocks.proofs.Near.{small_same}
 use Rattle.blocks.proofs.Growing.{grown_end, grown-step}
 use Rattle.blocks.proofs.growth.grow.Goals as goal
 

@@ -2,7 +2,6 @@
 use Rattle.std.proofs.Common.{arith}
 use Rattle.std.proofs.lemmas.Grind.{common_steps}
 use native.Mathlib.Nat.{pos_of_ne-zero}
-use native.Mathlib.Numerals.{add-one}
 use Rattle.layout.specs.Blocks.{grown_one, raised}
 use Rattle.blocks.proofs.Near.{fan_two, small_same}
 use Rattle.blocks.proofs.Growing.{grown-more, tall-some}
