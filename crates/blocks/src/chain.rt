@@ -10,6 +10,7 @@ use memory::runs::clear;
 
 // All bits set, in the header's 8 bytes and in a link's 4: no block.
 pub const END8: usize = 0xffff_ffff_ffff_ffff;
+
 pub const END4: usize = 0xffff_ffff;
 
 // A link's number as the header would hold it.
