@@ -28,14 +28,11 @@ fn check_shaped(card: &[u8], s: Shape, tab: &mut [u8], marks: &mut [u8]) -> Resu
     if !rule6(&*card, s, &*tab, marks) {
         return Err(Rule::Pyramids);
     }
-    let left = rule7(&*card, s, marks);
-    if left == 0 {
-        return Err(Rule::FreeChain);
-    }
+    let free = rule7(&*card, s, marks).ok_or(Rule::FreeChain)?;
     if !rule8(&*card, s, &*tab, marks) {
         return Err(Rule::Root);
     }
-    Ok(left - 1)
+    Ok(free)
 }
 
 // Any bytes, rule by rule: how many blocks are free, or the lowest broken rule. The page and the marks are lent for the work.
