@@ -3,3 +3,4 @@
 
 pub mod gather;
 pub mod lay;
+mod parts;
