@@ -2,7 +2,7 @@
 use mathlib.Core.Path.{◌≡◌, refl, sym, ap, ◌∙◌}
 use mathlib.Core.List.{List, [], ◌∷◌, ◌++◌, map}
 use Prim.Native.Nat.{ℕ, zero, suc, ◌+◌, ◌-◌, ◌*◌, ◌/◌, ◌%◌, min, ◌≤◌, ◌<◌}
-use native.Mathlib.Nat.{add-zero, zero-add, add-mul, mod-lt, div-add-mod', div-mul-le_self, mul-le-mul, mul-le-mul_right, min-eq_left, min-eq_right}
+use native.Mathlib.Nat.{add-zero, zero-add, add-mul, mod-lt, div-add-mod', mul-le-mul, mul-pos, mul-le-mul_right, min-eq_left, min-eq_right}
 use native.Mathlib.Decide.{dec_le, dec_lt}
 use native.Mathlib.Omega.{arith}
 use lib.ListN.{length, get_or, take, drop, drop_of_length-le}
@@ -14,13 +14,16 @@ use Rattle.layout.specs.Ranges.{Small}
 use Rattle.laws.proofs.ByteLaws.{over-append, over-take}
 use Rattle.laws.proofs.Windows.{window_past}
 use Rattle.laws.proofs.Levels.{div_is, mod_is}
-use Rattle.blocks.proofs.Near.{cap, far}
+use Rattle.blocks.proofs.Near.{cap, far, fan_pos}
 use Rattle.std.specs.Int.{div_ceil}
 use Rattle.std.proofs.lemmas.Grind.{div_ceil_times}
 use Rattle.laying.specs.Gathered.{gathered}
 use Rattle.layout.specs.declared.Shape.{Shape}
 
 -- the bytes below one redirector
+pub row_pos : (s : Shape) → 64 ≤ s.size → 0 < fan s * s.size
+row_pos s least = mul-pos (fan_pos s.size least) (omega arith)
+
 pub row_fits : (s : Shape) → s.size ≤ 4096 → fan s * s.size ≤ 4194304
 row_fits s most = let a : fan s ≤ 1024 = omega arith in omega (arith, mul-le-mul a most)
 
@@ -40,9 +43,6 @@ module _ (size p n : ℕ) (some : 0 < size) where
 
     pub part_end : end ≤ k → n ≤ k * size - p
     part_end h = omega (arith, times.1, mul-le-mul_right size h)
-
-  pub part_first : p / size * size ≤ p
-  part_first = omega (arith, div-mul-le_self p size)
 
 -- a block number above 2^32 is past the end of every card
 pub window-near : (c : List ℕ) (s : Shape) → Small c s → (b r n : ℕ) → window c (place s (min b cap) + r) n ≡ window c (place s b + r) n

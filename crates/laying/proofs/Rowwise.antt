@@ -141,12 +141,12 @@ row-turn s some l start p n k from done m fits low high e f g c c₁ b b' a v =
     let z = begins s some l start p n k from done m s.size fits low high e f g in
     rw (z, ← e, ← f) (elim (dec_lt 0 (n - done)) [
       | yes h ↦ (let turn = lay-turn s some l (start + done) (n - done) m h (omega arith) c c₁ b b' k from (omega arith) g a v in
-        elim (behind s some l start p n k from done m s.size fits low high e f g) [
-          | inl w ↦ (let w₁ : n - (done + m) ≡ n - done - m = omega arith in
-              let w₂ : start + (done + m) ≡ start + done + m = omega arith in
-              rw (w, w₁, w₂) turn)
-          | inr w ↦ rw w.0 (rw w.1 at turn)
-        ])
+          elim (behind s some l start p n k from done m s.size fits low high e f g) [
+            | inl w ↦ (let w₁ : n - (done + m) ≡ n - done - m = omega arith in
+                let w₂ : start + (done + m) ≡ start + done + m = omega arith in
+                rw (w, w₁, w₂) turn)
+            | inr w ↦ rw w.0 (rw w.1 at turn)
+          ])
       | no h ↦ (let y : n - done ≡ 0 = omega arith in
           let y₁ : m ≡ 0 = omega arith in
           rw (idle s some l start p n k from done m s.size fits low high e f g y, y) (rw y₁ at v))
@@ -175,12 +175,12 @@ rows_turn s some some' l start p n k from done m fits low high e f g c c₁ top 
     let z₂ : 0 % s.size ≡ 0 = mod_is 0 (omega arith) some in
     rw (z, z₁, z₂, ← e, ← f) (elim (dec_lt 0 (n - done)) [
       | yes u ↦ (let turn = lays_turn s some l (start + done) (n - done) m u (omega arith) c c₁ top h k i r b i-low r-low (rw wide g) a v in
-        elim (behind s some l start p n k from done m size fits low high e f g) [
-          | inl w ↦ (let w₁ : n - (done + m) ≡ n - done - m = omega arith in
-              let w₂ : start + (done + m) ≡ start + done + m = omega arith in
-              rw (w, w₁, w₂) turn)
-          | inr w ↦ rw w.0 (rw w.1 at turn)
-        ])
+          elim (behind s some l start p n k from done m size fits low high e f g) [
+            | inl w ↦ (let w₁ : n - (done + m) ≡ n - done - m = omega arith in
+                let w₂ : start + (done + m) ≡ start + done + m = omega arith in
+                rw (w, w₁, w₂) turn)
+            | inr w ↦ rw w.0 (rw w.1 at turn)
+          ])
       | no u ↦ (let y : n - done ≡ 0 = omega arith in
           let y₁ : m ≡ 0 = omega arith in
           rw (idle s some l start p n k from done m size fits low high e f g y, y) (rw y₁ at v))

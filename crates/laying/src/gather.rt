@@ -60,12 +60,7 @@ fn gather_rows(
     for q in p / row..(p + n).div_ceil(row) {
         let x = piece_in(row, p, n, q);
         let b = node(&*card, s, top, h - 1, q);
-        let below = |k: usize|
-            requires { Small card.now s × (k ≤ 4294967296) }
-            ensures { result ≡ slot card.entry.now s b k }
-        {
-            slot(&*card, s, b, k)
-        };
+        let below = |k: usize| slot(&*card, s, b, k);
         gather_blocks(&*card, s, below, x.from, tray, at + x.done, x.n);
     }
 }
@@ -75,7 +70,9 @@ pub fn gather_stream(card: &[u8], s: Shape, t: Desc, p: usize, tray: &mut [u8], 
     requires { Small card.now s }
     ensures { tray.new ≡ over tray.old at (take n (drop p (contents card.now s t.top (data_of s t) t.size))) }
 {
-    let m = n.min(t.size.saturating_sub(p)).min(tray.len().saturating_sub(at));
+    let there = t.size.saturating_sub(p);
+    let room = tray.len().saturating_sub(at);
+    let m = n.min(there).min(room);
     if m == 0 {
         return;
     }

@@ -21,22 +21,15 @@ fn lay_block(card: &mut [u8], s: Shape, b: usize, r: usize, given: &[u8], from: 
 }
 
 // `n` bytes of `given` from `from` on go into the blocks that the slots of block `b` name, from place `p` of these on.
-fn lay_row(
-    card: &mut [u8],
-    s: Shape,
-    b: usize,
-    p: usize,
-    given: &[u8],
-    from: usize,
-    n: usize,
-)
+fn lay_row(card: &mut [u8], s: Shape, b: usize, p: usize, given: &[u8], from: usize, n: usize)
     requires { Small card.old s × (p + n ≤ 4294967296) × (from + n ≤ length given.now) }
     ensures { card.new ≡ laid_row n card.old s b (p / s.size) (p % s.size) (take n (drop from given.now)) }
 {
     let size = s.size;
     for k in p / size..(p + n).div_ceil(size) {
         let x = piece_in(size, p, n, k);
-        lay_block(card, s, slot(card, s, b, k), x.from, &*given, from + x.done, x.n);
+        let to = slot(card, s, b, k);
+        lay_block(card, s, to, x.from, &*given, from + x.done, x.n);
     }
 }
 
@@ -61,6 +54,7 @@ pub fn lay(
     let row = s.size / 4 * s.size;
     for q in p / row..(p + n).div_ceil(row) {
         let x = piece_in(row, p, n, q);
-        lay_row(card, s, node(card, s, top, h - 1, q), x.from, &*given, from + x.done, x.n);
+        let b = node(card, s, top, h - 1, q);
+        lay_row(card, s, b, x.from, &*given, from + x.done, x.n);
     }
 }
