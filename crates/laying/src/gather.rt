@@ -6,12 +6,12 @@ ghost use Rattle.layout.specs.Streams.{data_of, contents};
 ghost use Rattle.layout.specs.Ranges.{Small};
 ghost use Rattle.laying.specs.Gathered.{gathered};
 
+use crate::levels::levels;
 use crate::parts::piece_in;
 use blocks::places::{place, slot};
 use blocks::reader::node;
 use layout::{Desc, Shape};
 use memory::runs::fetch;
-use pyramids::pyramid::height;
 
 // `n` bytes of block `b` from its byte `r` on go to `tray` from `at` on.
 fn gather_block(card: &[u8], s: Shape, b: usize, r: usize, tray: &mut [u8], at: usize, n: usize)
@@ -77,7 +77,7 @@ pub fn gather_stream(card: &[u8], s: Shape, t: Desc, p: usize, tray: &mut [u8], 
         return;
     }
     let top = t.top;
-    let h = height(s.size / 4, t.reserved / s.size);
+    let h = levels(s, t);
     if h == 0 {
         gather_blocks(&*card, s, |_| top, p, tray, at, m);
     } else {

@@ -2,13 +2,14 @@
 ghost use Rattle.std.specs.Prelude.{◌≡◌, ◌+◌, ◌/◌, ◌%◌, ◌^◌, ◌<◌, ◌≤◌, length, take, drop};
 ghost use Rattle.layout.specs.Bytes.{over};
 ghost use Rattle.layout.specs.Blocks.{place};
-ghost use Rattle.layout.specs.Streams.{laid_row, laid};
+ghost use Rattle.layout.specs.Streams.{data_of, tall, laid_row, laid};
 ghost use Rattle.layout.specs.Ranges.{Small};
 
+use crate::levels::levels;
 use crate::parts::piece_in;
 use blocks::places::{place, slot};
 use blocks::reader::node;
-use layout::Shape;
+use layout::{Desc, Shape};
 use memory::runs::copy;
 
 // `n` bytes of `given` from `from` on go into block `b` from its byte `r` on.
@@ -57,4 +58,12 @@ pub fn lay(
         let b = node(card, s, top, h - 1, q);
         lay_row(card, s, b, x.from, &*given, from + x.done, x.n);
     }
+}
+
+// The same into the stream that `t` describes.
+pub fn lay_stream(card: &mut [u8], s: Shape, t: Desc, p: usize, given: &[u8], from: usize, n: usize)
+    requires { Small card.old s × (p < 2 ^ 62) × (n < 2 ^ 62) × (from + n ≤ length given.now) }
+    ensures { card.new ≡ laid card.old s t.top (tall s (data_of s t)) p (take n (drop from given.now)) }
+{
+    lay(card, s, t.top, levels(s, t), p, &*given, from, n);
 }
