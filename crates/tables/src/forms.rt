@@ -1,11 +1,25 @@
 // What a descriptor must look like, by itself.
 ghost use Rattle.std.specs.Prelude.{◌≡◌, not, ◌≤◌, eqb};
 ghost use Rattle.layout.specs.Bytes.{pick, end8, run, all_b};
+ghost use Rattle.layout.specs.Streams.{desc_of};
 ghost use Rattle.layout.specs.Sound.{right_desc, live_form, free_form, good_form};
 
 use layout::{Desc, Shape};
 use pyramids::pyramid::up;
 use stream::descs::descriptor;
+
+// Where the table's descriptors start, and how long each is.
+pub const START: usize = 8;
+pub const LENGTH: usize = 25;
+
+// Descriptor `k`, by the table's bytes.
+#[tactic(auto, unfolding(layout::specs::Streams::desc_of))]
+pub fn descriptor_at(tab: &[u8], k: usize) -> Desc
+    requires { k ≤ 65536 }
+    ensures { result ≡ desc_of tab.now k }
+{
+    descriptor(tab, START + LENGTH * k)
+}
 
 // Flags and reserved are right, and there are no more data blocks than the card has blocks. What is reserved is compared by
 // blocks and by rest, so that no product can be too large.
