@@ -1,11 +1,10 @@
--- Tests of all: of a list, and of the numbers from k on, one after the other.
-use mathlib.Core.Path.{◌≡◌, refl, sym, ◌∙◌}
-use mathlib.Core.Bool.{Bool, true, false}
+-- Tests of all: of a list, and of the numbers from k on, as std tests them.
+use mathlib.Core.Path.{◌≡◌, refl}
+use mathlib.Core.Bool.{Bool, true, false, ◌&&◌}
 use mathlib.Core.List.{List, [], ◌∷◌}
 use mathlib.Core.Logic.{inl, inr}
-use Prim.Native.Nat.{ℕ, zero, suc, ◌+◌, ◌-◌, ◌≤◌, ◌<◌}
-use native.Mathlib.Numerals.{sub-one}
-use native.Mathlib.Omega.{arith}
+use Prim.Native.Nat.{ℕ, zero, suc, ◌+◌}
+use Rattle.std.specs.List.{list_all, range_with_len}
 use Rattle.layout.specs.Bytes.{both, run, all_b}
 use Rattle.laws.proofs.Lists.{In}
 use Rattle.laws.proofs.Tests.{Is, is_both}
@@ -24,20 +23,12 @@ is_all_in {A} p Q (y ∷ xs) h =
 
 -- ---- the numbers from k on
 
-module _ (p : ℕ → Bool) where
-  pub all-step : (k left : ℕ) → 0 < left → all_b p (run k left) ≡ both (p k) (all_b p (run (k + 1) (left - 1)))
-  unfolding all_b run
-  all-step k zero h = elim h [ ]
-  all-step k (suc left) h = rw (sub-one (suc left))
-
-  module _ (k left : ℕ) (r : Bool) (more : 0 < left) (f : r ≡ p k) where
-    pub all_stop : r ≡ false → false ≡ all_b p (run k left)
-    all_stop z = let g : p k ≡ false = sym f ∙ z in rw (all-step k left more, g)
-
-    pub all-turn : r ≡ true → all_b p (run (k + 1) (left - 1)) ≡ all_b p (run k left)
-    all-turn z = let g : p k ≡ true = sym f ∙ z in rw (all-step k left more, g)
-
-  pub all_done : (k left : ℕ) → left ≤ 0 → true ≡ all_b p (run k left)
-  unfolding all_b run
-  all_done k zero h = refl
-  all_done k (suc left) h = absurd (omega arith)
+-- std's test of all of a range is the definition's
+pub every_is : (p : ℕ → Bool) (k n : ℕ) → list_all p (range_with_len k n) ≡ all_b p (run k n)
+unfolding all_b run
+every_is p k zero = refl
+every_is p k (suc n) = rw (every_is p (k + 1) n) (by (p k) (all_b p (run (k + 1) n)))
+  where
+    by : (a b : Bool) → (a && b) ≡ both a b
+    by true b = refl
+    by false b = refl

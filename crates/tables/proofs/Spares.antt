@@ -2,25 +2,24 @@
 use mathlib.Core.Path.{◌≡◌, refl, sym, ap, ◌∙◌}
 use mathlib.Core.Bool.{Bool, true, false, not}
 use mathlib.Core.List.{List, [], ◌∷◌, ◌++◌, map}
-use Prim.Native.Nat.{ℕ, ◌+◌, ◌-◌, ◌*◌, ◌/◌, ◌%◌, ◌≤◌, ◌<◌}
+use Prim.Native.Nat.{ℕ, suc, ◌+◌, ◌-◌, ◌*◌, ◌/◌, ◌%◌, ◌≤◌, ◌<◌}
 use native.Mathlib.Nat.{div-add-mod'}
 use native.Mathlib.Decide.{ℕ_discrete, dec_le}
 use native.Mathlib.Omega.{arith}
-use lib.ListN.{length, get_or, set, replicate}
-use lib.Dec.{eqb}
+use lib.ListN.{length, set, replicate}
 use borrow.Author.Tests.{eq-eqb, ne_eqb}
 use Rattle.layout.specs.Limits.{most_streams}
 use Rattle.layout.specs.Bytes.{pick, both, num, over, end8, run, those, all_b}
-use Rattle.layout.specs.Marks.{fresh}
+use Rattle.layout.specs.Marks.{fresh, mark_ok, mark_set}
 use Rattle.layout.specs.Blocks.{walk}
-use Rattle.layout.specs.Streams.{desc_in, desc_of, dead, live, offset, slots, frees, desc_chain, table_bytes}
+use Rattle.layout.specs.Streams.{dead, live, offset, slots, frees, desc_chain, table_bytes}
 use Rattle.layout.specs.Sound.{good_form, same_set, rule5}
 use Rattle.laws.proofs.Picks.{leb_yes, leb_no}
 use Rattle.laws.proofs.Levels.{div_is, mod_is}
-use Rattle.marking.proofs.Walking.{Marked, Rest, cleared, one-marked, rest_goes, rest_stops, rest-ends}
+use Rattle.marking.proofs.Walking.{Marked, Rest, cleared, fresh_out, one-marked, rest_goes, rest_stops, rest-ends}
 use Rattle.tables.specs.Compared.{right_mark, asked, number_at, spares}
 use Rattle.tables.specs.OnPage.{Reads}
-use Rattle.blocks.proofs.Links.{list_end, list_out, list-step}
+use Rattle.blocks.proofs.Links.{list_end, list_out}
 use Rattle.tables.proofs.Compared.{compared}
 use Rattle.tables.proofs.Paged.{nums_same, dead-same, form_same}
 use Rattle.layout.specs.declared.Shape.{Shape}
@@ -62,41 +61,30 @@ module _ (n : ℕ) (next : ℕ → ℕ) (left x : ℕ) (m m₀ bs₀ : List ℕ)
   pub spares_out : left ≤ 0 → Marked n m₀ bs₀ true m
   spares_out h = rest-ends n m m₀ _ bs₀ (ap (map number_at) (list_out next left x h)) rest
 
-  module _ (more : 0 < left) (on : x ≡ end8 → ⊥) (k : ℕ) (m' : List ℕ) (r : Bool) (a : k ≡ number_at x) (e : r ≡ fresh n m k) (f : m' ≡ pick (fresh n m k) (set m k 1) m) where
-    there : (x' : ℕ) → x' ≡ next x → Rest n m ((k ∷ []) ++ map number_at (walk (left - 1) next x')) m₀ bs₀
-    there x' g = rw (a) (rw (list-step next left x x' more on g) at rest)
+  module _ (less : ℕ) (more : left ≡ suc less) (on : x ≡ end8 → ⊥) where
+    step : (x' : ℕ) → x' ≡ next x → walk left next x ≡ x ∷ walk less next x'
+    unfolding walk
+    step x' g = rw (more, g, ne_eqb x end8 on)
 
-    pub spares-turn : (x' : ℕ) → x' ≡ next x → r ≡ true → Rest n m' (map number_at (walk (left - 1) next x')) m₀ bs₀
-    spares-turn x' g h = rest_goes n m m' m₀ (k ∷ []) _ bs₀ r (one-marked n m m' k r e f) h (there x' g)
+    module _ (k : ℕ) (m' : List ℕ) (r : Bool) (a : number_at x ≡ k) (e : r ≡ fresh n m k) (f : m' ≡ pick (fresh n m k) (set m k 1) m) where
+      there : (x' : ℕ) → x' ≡ next x → Rest n m ((k ∷ []) ++ map number_at (walk less next x')) m₀ bs₀
+      there x' g = rw (← a) (rw (step x' g) at rest)
 
-    pub spares_stop : r ≡ false → Marked n m₀ bs₀ false m'
-    spares_stop h = rest_stops n m m' m₀ (k ∷ []) _ bs₀ r (one-marked n m m' k r e f) h (there (next x) refl)
+      pub spares-turn : (x' : ℕ) → x' ≡ next x → r ≡ true → Rest n m' (map number_at (walk less next x')) m₀ bs₀
+      spares-turn x' g h = rest_goes n m m' m₀ (k ∷ []) _ bs₀ r (one-marked n m m' k r e f) h (there x' g)
 
-pub spares_begun : (tab : List ℕ) (n x : ℕ) (m : List ℕ) → x ≡ num 8 tab 0 → Rest n m (map number_at (walk (n + 1) (num 8 tab) x)) m (spares tab n)
+      pub spares_stop : r ≡ false → Marked n m₀ bs₀ false m'
+      spares_stop h = rest_stops n m m' m₀ (k ∷ []) _ bs₀ r (one-marked n m m' k r e f) h (there (next x) refl)
+
+    -- no descriptor stands there: its number can't be marked
+    pub spares_lost : n ≤ end8 → number_at x ≡ end8 → Marked n m₀ bs₀ false m
+    spares_lost h a =
+        let no : fresh n m end8 ≡ false = fresh_out n m end8 h in
+        spares_stop end8 m false a (sym no) (rw no) refl
+
+pub spares_begun : (tab : List ℕ) (n left x : ℕ) (m : List ℕ) → left ≡ n + 1 → x ≡ num 8 tab 0 → Rest n m (map number_at (walk left (num 8 tab) x)) m (spares tab n)
 unfolding spares
-spares_begun tab n x m e = rw e (refl, refl)
-
--- ---- one descriptor
-
-pub free_is : (tab : List ℕ) (k top : ℕ) → top ≡ num 8 tab (16 + 25 * k) → eqb top end8 ≡ dead tab k
-unfolding dead desc_of desc_in
-free_is tab k top e = let at : 16 + 25 * k ≡ 8 + 25 * k + 8 = omega arith in rw (e, at)
-
-pub asked-live : (tab : List ℕ) (k : ℕ) (alive r : Bool) → alive ≡ true → r ≡ dead tab k → not r ≡ asked tab alive k
-unfolding live
-asked-live tab k alive r a e = rw (a, e)
-
-pub asked-free : (tab : List ℕ) (k : ℕ) (alive r : Bool) → alive ≡ false → r ≡ dead tab k → r ≡ asked tab alive k
-asked-free tab k alive r a e = rw (a, e)
-
-module _ (m : List ℕ) (p : ℕ → Bool) (k x : ℕ) (r : Bool) (e : x ≡ get_or m k 0) (f : r ≡ p k) where
-  pub mark_none : x ≡ 0 → not r ≡ right_mark m p k
-  unfolding right_mark
-  mark_none z = rw (← e, eq-eqb x 0 z, f)
-
-  pub mark-some : (x ≡ 0 → ⊥) → r ≡ right_mark m p k
-  unfolding right_mark
-  mark-some z = rw (← e, ne_eqb x 0 z, f)
+spares_begun tab n left x m h e = rw (h, e) (refl, refl)
 
 -- ---- rule 5
 
@@ -112,28 +100,14 @@ module _ (c : List ℕ) (s : Shape) (tab : List ℕ) (n : ℕ) (many : n ≡ slo
   unfolding frees
   frees_are = rw (dead-same tab (table_bytes c s) same, many)
 
-  module _ (r : Bool) (e : r ≡ all_b (good_form s tab) (run 0 n)) where
-    pub form_wrong : r ≡ false → false ≡ rule5 c s
-    unfolding rule5
-    form_wrong f = rw (← forms_are, ← e, f)
+  -- test by test, on cleared marks
+  module _ (m m₁ : List ℕ) (long : n ≤ length m) (a : m₁ ≡ over m 0 (replicate n 0)) where
+    set_are : both (mark_ok n m₁ (spares tab n)) (all_b (right_mark (mark_set n m₁ (spares tab n)) (dead tab)) (run 0 n)) ≡ same_set (desc_chain (table_bytes c s)) (frees (table_bytes c s))
+    unfolding spares
+    set_are =
+        let y = cleared m m₁ n long a in
+        rw (← chain_are, ← frees_are) (compared n m₁ y.0 y.1 (dead tab) offset number_at (λ k l. at_offset k) (offset_at n few) (walk (n + 1) (num 8 tab) (num 8 tab 0)))
 
-    module _ (f : r ≡ true) (m m₁ m₂ : List ℕ) (q : Bool) (long : n ≤ length m) (a : m₁ ≡ over m 0 (replicate n 0)) (p : Marked n m₁ (spares tab n) q m₂) where
-      set_are : both q (all_b (right_mark m₂ (dead tab)) (run 0 n)) ≡ same_set (desc_chain (table_bytes c s)) (frees (table_bytes c s))
-      unfolding spares
-      set_are =
-          let y = cleared m m₁ n long a in
-          let a = compared n m₁ y.0 y.1 (dead tab) offset number_at (λ k l. at_offset k) (offset_at n few) (walk (n + 1) (num 8 tab) (num 8 tab 0)) in
-          rw (p.0, p.1, ← chain_are, ← frees_are) a
-
-      pub chain_wrong : q ≡ false → false ≡ rule5 c s
-      unfolding rule5
-      chain_wrong g = rw (← forms_are, ← e, f, ← set_are, g)
-
-      module _ (g : q ≡ true) (v : Bool) (w : v ≡ all_b (right_mark m₂ (asked tab false)) (run 0 n)) where
-        pub set_wrong : v ≡ false → false ≡ rule5 c s
-        unfolding rule5
-        set_wrong h = rw (← forms_are, ← e, f, ← set_are, g, ← w, h)
-
-        pub root-last : (z : Bool) → v ≡ true → z ≡ dead tab 0 → not z ≡ rule5 c s
-        unfolding rule5 live
-        root-last z h u = rw (← forms_are, ← e, f, ← set_are, g, ← w, h, u, ap (λ (d : ℕ → Bool). d 0) (dead-same tab (table_bytes c s) same))
+    pub rule5_is : both (all_b (good_form s tab) (run 0 n)) (both (both (mark_ok n m₁ (spares tab n)) (all_b (right_mark (mark_set n m₁ (spares tab n)) (asked tab false)) (run 0 n))) (not (dead tab 0))) ≡ rule5 c s
+    unfolding rule5 live
+    rule5_is = rw (forms_are, set_are, ap (λ (d : ℕ → Bool). d 0) (dead-same tab (table_bytes c s) same))

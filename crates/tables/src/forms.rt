@@ -1,53 +1,54 @@
 // What a descriptor must look like, by itself.
 ghost use Rattle.std.specs.Prelude.{◌≡◌, not, ◌≤◌, eqb};
 ghost use Rattle.layout.specs.Bytes.{pick, end8, run, all_b};
+ghost use Rattle.layout.specs.Streams.{desc_of};
 ghost use Rattle.layout.specs.Sound.{right_desc, live_form, free_form, good_form};
 
+use blocks::chain::END8;
 use layout::{Desc, Shape};
 use pyramids::pyramid::up;
 use stream::descs::descriptor;
 
+// Where the table's descriptors start, and how long each is.
+pub const START: usize = 8;
+
+pub const LENGTH: usize = 25;
+
+// Descriptor `k`, by the table's bytes.
+#[tactic(auto, unfolding(layout::specs::Streams::desc_of))]
+pub fn descriptor_at(tab: &[u8], k: usize) -> Desc
+    requires { k ≤ 65536 }
+    ensures { result ≡ desc_of tab.now k }
+{
+    descriptor(tab, START + LENGTH * k)
+}
+
 // Flags and reserved are right, and there are no more data blocks than the card has blocks. What is reserved is compared by
 // blocks and by rest, so that no product can be too large.
+#[tactic(auto, using(crate::proofs::Shaped::reserve_is), unfolding(layout::specs::Sound::right_desc))]
 pub fn right_desc(s: Shape, t: Desc) -> bool
     requires { 64 ≤ s.size }
     ensures { result ≡ right_desc s t }
 {
-    if t.flags != 0 {
-        return false;
-    }
     let d = t.reserved / s.size;
-    if s.count < d {
-        return false;
-    }
-    if up(s.size, t.size) != d {
-        return false;
-    }
-    t.reserved % s.size == 0
+    t.flags == 0 && d <= s.count && up(s.size, t.size) == d && t.reserved % s.size == 0
 }
 
 // The descriptor of a stream: a stream of no blocks has top 0.
+#[tactic(auto, unfolding(layout::specs::Sound::live_form))]
 pub fn live_form(s: Shape, t: Desc) -> bool
     requires { 64 ≤ s.size }
     ensures { result ≡ live_form s t }
 {
-    if !right_desc(s, t) {
-        return false;
-    }
-    if t.reserved / s.size == 0 {
-        return t.top == 0;
-    }
-    true
+    right_desc(s, t) && (t.reserved / s.size != 0 || t.top == 0)
 }
 
 // A free descriptor: its size is the chain's to judge.
+#[tactic(auto, unfolding(layout::specs::Sound::free_form))]
 pub fn free_form(t: Desc) -> bool
     ensures { result ≡ free_form t }
 {
-    if t.reserved != 0 {
-        return false;
-    }
-    t.flags == 0
+    t.reserved == 0 && t.flags == 0
 }
 
 // Any descriptor: one with all bits of its top set is free.
@@ -55,10 +56,11 @@ pub fn good_form(s: Shape, t: Desc) -> bool
     requires { 64 ≤ s.size }
     ensures { result ≡ pick (not (eqb t.top end8)) (live_form s t) (free_form t) }
 {
-    if t.top == 0xffff_ffff_ffff_ffff {
-        return free_form(t);
+    if t.top == END8 {
+        free_form(t)
+    } else {
+        live_form(s, t)
     }
-    live_form(s, t)
 }
 
 // The first `n` descriptors in the table's bytes are well formed.
@@ -66,14 +68,5 @@ pub fn good_forms(s: Shape, tab: &[u8], n: usize) -> bool
     requires { (64 ≤ s.size) × (n ≤ 65536) }
     ensures { result ≡ all_b (good_form s tab.now) (run 0 n) }
 {
-    let mut k = 0;
-    let mut left = n;
-    while 0 < left {
-        if !good_form(s, descriptor(&*tab, 8 + 25 * k)) {
-            return false;
-        }
-        k += 1;
-        left -= 1;
-    }
-    true
+    (0..n).all(|k| good_form(s, descriptor_at(tab, k)))
 }

@@ -1,7 +1,7 @@
 // Rule 5: the descriptors, and the chain of the free ones; it ends on any bytes.
-ghost use Rattle.std.specs.Prelude.{◌≡◌, true, ◌≤◌, length, replicate};
+ghost use Rattle.std.specs.Prelude.{◌≡◌, true, ◌≤◌, length, replicate, MatchOption};
 ghost use Rattle.layout.specs.Limits.{most_streams};
-ghost use Rattle.layout.specs.Bytes.{run, all_b};
+ghost use Rattle.layout.specs.Bytes.{end8, run, all_b};
 ghost use Rattle.layout.specs.Marks.{mark_ok, mark_set};
 ghost use Rattle.layout.specs.Streams.{dead, table_bytes};
 ghost use Rattle.layout.specs.Sound.{rule4, rule5};
@@ -9,7 +9,9 @@ ghost use Rattle.layout.specs.Ranges.{Small};
 ghost use Rattle.tables.specs.Compared.{right_mark, asked, number_at, spares};
 ghost use Rattle.tables.specs.OnPage.{Reads};
 
-use crate::forms::good_forms;
+use crate::forms::{LENGTH, START, good_forms};
+use crate::table::LONGEST;
+use blocks::chain::END8;
 use laying::gather::gather_stream;
 use layout::Shape;
 use marking::marks::mark;
@@ -17,17 +19,19 @@ use memory::bytes::{byte, number};
 use memory::runs::clear;
 use stream::descs::{descriptors, table};
 
-// The number of the descriptor that stands at `x` in the table; where none does, a number that no descriptor has.
-fn number_at(x: usize) -> usize
-    ensures { result ≡ number_at x }
+// Where a descriptor's top stands in it.
+const TOP: usize = 8;
+
+// The number of the descriptor that stands at `x` in the table, where one does.
+#[tactic(auto, unfolding(crate::specs::Compared::number_at))]
+fn number_at(x: usize) -> Option<usize>
+    ensures { MatchOption result (number_at x ≡ end8) (λ k. number_at x ≡ k) }
 {
-    if x < 8 {
-        return 0xffff_ffff_ffff_ffff;
+    let p = x.checked_sub(START)?;
+    if p % LENGTH != 0 {
+        return None;
     }
-    if (x - 8) % 25 != 0 {
-        return 0xffff_ffff_ffff_ffff;
-    }
-    (x - 8) / 25
+    Some(p / LENGTH)
 }
 
 // Marks the free descriptors along their chain, or finds one that it can't mark.
@@ -35,49 +39,47 @@ fn mark_spares(tab: &[u8], n: usize, marks: &mut [u8]) -> bool
     requires { n ≤ 65536 }
     ensures { (result ≡ mark_ok n marks.old (spares tab.now n)) × (marks.new ≡ mark_set n marks.old (spares tab.now n)) }
 {
-    let mut x = number(&*tab, 0, 8);
-    let mut left = n + 1;
-    while 0 < left {
-        if x == 0xffff_ffff_ffff_ffff {
+    let mut x = number(tab, 0, 8);
+    for _ in 0..n + 1 {
+        if x == END8 {
             return true;
         }
-        if !mark(marks, n, number_at(x)) {
+        let Some(k) = number_at(x) else {
+            return false;
+        };
+        if !mark(marks, n, k) {
             return false;
         }
-        x = number(&*tab, x, 8);
-        left -= 1;
+        x = number(tab, x, 8);
     }
     true
 }
 
-// Whether descriptor `k` is free: by its top alone, which is its second number.
+// Whether descriptor `k` is free: by its top alone.
+#[tactic(auto, unfolding(layout::specs::Streams::dead, layout::specs::Streams::desc_of, layout::specs::Streams::desc_in))]
 fn is_free(tab: &[u8], k: usize) -> bool
     requires { k ≤ 65536 }
     ensures { result ≡ dead tab.now k }
 {
-    number(&*tab, 16 + 25 * k, 8) == 0xffff_ffff_ffff_ffff
+    number(tab, START + LENGTH * k + TOP, 8) == END8
 }
 
 // Whether descriptor `k` is live, or, if the free ones are asked for, free.
+#[tactic(auto, unfolding(layout::specs::Streams::live))]
 fn is_asked(tab: &[u8], alive: bool, k: usize) -> bool
     requires { k ≤ 65536 }
     ensures { result ≡ asked tab.now alive k }
 {
-    if alive {
-        return !is_free(tab, k);
-    }
-    is_free(tab, k)
+    is_free(tab, k) != alive
 }
 
 // Whether descriptor `k` is marked exactly where it is asked for.
+#[tactic(auto, unfolding(crate::specs::Compared::right_mark))]
 fn right_mark(tab: &[u8], alive: bool, k: usize, marks: &[u8]) -> bool
     requires { k ≤ 65536 }
     ensures { result ≡ right_mark marks.now (asked tab.now alive) k }
 {
-    if byte(marks, k) == 0 {
-        return !is_asked(tab, alive, k);
-    }
-    is_asked(tab, alive, k)
+    (byte(marks, k) != 0) == is_asked(tab, alive, k)
 }
 
 // Whether all of the first `n` descriptors are.
@@ -85,16 +87,7 @@ pub fn right_marks(tab: &[u8], alive: bool, n: usize, marks: &[u8]) -> bool
     requires { n ≤ 65536 }
     ensures { result ≡ all_b (right_mark marks.now (asked tab.now alive)) (run 0 n) }
 {
-    let mut k = 0;
-    let mut left = n;
-    while 0 < left {
-        if !right_mark(&*tab, alive, k, &*marks) {
-            return false;
-        }
-        k += 1;
-        left -= 1;
-    }
-    true
+    (0..n).all(|k| right_mark(tab, alive, k, marks))
 }
 
 // Rule 5: every descriptor is well formed, the chain has the free ones, each once, and descriptor 0 is not one of them. The
@@ -104,16 +97,10 @@ pub fn rule5(card: &[u8], s: Shape, tab: &mut [u8], marks: &mut [u8]) -> bool
     ensures { (result ≡ rule5 card.now s) × Reads tab.new (table_bytes card.now s) }
 {
     let n = descriptors(card, s);
-    gather_stream(card, s, table(card, s), 0, tab, 0, 6408);
-    if !good_forms(s, &*tab, n) {
+    gather_stream(card, s, table(card, s), 0, tab, 0, LONGEST);
+    if !good_forms(s, tab, n) {
         return false;
     }
     clear(marks, 0, n);
-    if !mark_spares(&*tab, n, marks) {
-        return false;
-    }
-    if !right_marks(&*tab, false, n, &*marks) {
-        return false;
-    }
-    !is_free(&*tab, 0)
+    mark_spares(tab, n, marks) && right_marks(tab, false, n, marks) && !is_free(tab, 0)
 }

@@ -2,58 +2,35 @@
 use mathlib.Core.Path.{◌≡◌, refl, sym, ◌∙◌}
 use mathlib.Core.Bool.{Bool, true, false}
 use mathlib.Core.List.{List, [], ◌∷◌, ◌++◌}
-use Prim.Native.Nat.{ℕ, zero, suc, ◌+◌, ◌-◌, ◌*◌, ◌≤◌, ◌<◌}
-use native.Mathlib.Numerals.{sub-one}
-use native.Mathlib.Omega.{arith}
+use Prim.Native.Nat.{ℕ, zero, suc, ◌+◌, ◌≤◌}
 use lib.ListN.{length, replicate}
-use borrow.Author.Tests.{eq-eqb, ne_eqb}
-use Rattle.layout.specs.Bytes.{over, end8, run, those, join, pick}
+use Rattle.layout.specs.Bytes.{over, run, those, join, pick}
 use Rattle.layout.specs.Sound.{used, rule6}
 use Rattle.laws.proofs.Marking.{mark-separate}
 use Rattle.layout.specs.Blocks.{pyramid}
-use Rattle.layout.specs.Streams.{data_of, desc_in, desc_of, dead, live, lives, slots, stream, stream_blocks, table, table_blocks, table_bytes}
-use Rattle.marking.proofs.Walking.{Marked, Rest, cleared, none_marked, part_stops, part_goes, rest_goes, rest_stops, rest-ends}
+use Rattle.layout.specs.Streams.{data_of, desc_of, dead, live, lives, slots, stream, stream_blocks, table, table_blocks, table_bytes}
+use Rattle.marking.proofs.Walking.{Marked, Rest, cleared, part_stops, part_goes, rest_goes, rest_stops, rest-ends}
 use Rattle.usage.specs.Used.{blocks_of, used_from, InUse}
 use Rattle.layout.specs.declared.Shape.{Shape}
 use Rattle.layout.specs.declared.Desc.{Desc}
 
--- ---- one stream
+-- ---- the streams, one after the other
 
-pub stream-free : (c : List ℕ) (s : Shape) (t : Desc) (m : List ℕ) → t.top ≡ end8 → Marked s.count m (blocks_of c s t) true m
-unfolding blocks_of
-stream-free c s t m e = rw (eq-eqb t.top end8 e) (none_marked s.count m)
+module _ (c : List ℕ) (s : Shape) (tab : List ℕ) (k left : ℕ) (m m₀ bs₀ : List ℕ) (rest : Rest s.count m (used_from c s tab k left) m₀ bs₀) where
+  module _ (t : Desc) (m' : List ℕ) (r : Bool) (less : ℕ) (more : left ≡ suc less) (e : t ≡ desc_of tab k) (p : Marked s.count m (blocks_of c s t) r m') where
+    there : Rest s.count m (blocks_of c s t ++ used_from c s tab (k + 1) less) m₀ bs₀
+    unfolding used_from
+    there = rw e (rw more at rest)
 
-pub stream-used : (c : List ℕ) (s : Shape) (t : Desc) (m m' : List ℕ) (r : Bool) → (t.top ≡ end8 → ⊥) → Marked s.count m (pyramid c s t.top (data_of s t)) r m' → Marked s.count m (blocks_of c s t) r m'
-unfolding blocks_of
-stream-used c s t m m' r e p = rw (ne_eqb t.top end8 e) p
-
--- ---- all of them
-
-module _ (c : List ℕ) (s : Shape) (tab : List ℕ) where
-  used_step : (k n : ℕ) → 0 < n → used_from c s tab k n ≡ blocks_of c s (desc_of tab k) ++ used_from c s tab (k + 1) (n - 1)
-  unfolding used_from
-  used_step k zero h = elim h [ ]
-  used_step k (suc n) h = rw (sub-one (suc n))
-
-  used_end : (k n : ℕ) → n ≤ 0 → used_from c s tab k n ≡ []
-  unfolding used_from
-  used_end k zero h = refl
-  used_end k (suc n) h = absurd (omega arith)
-
-  module _ (t : Desc) (k left : ℕ) (m m' m₀ bs₀ : List ℕ) (r : Bool) (more : 0 < left) (e : t ≡ desc_in tab (8 + 25 * k)) (p : Marked s.count m (blocks_of c s t) r m')
-      (rest : Rest s.count m (used_from c s tab k left) m₀ bs₀) where
-    there : Rest s.count m (blocks_of c s t ++ used_from c s tab (k + 1) (left - 1)) m₀ bs₀
-    unfolding desc_of
-    there = rw (used_step k left more, ← e) at rest
-
-    pub used_turn : r ≡ true → Rest s.count m' (used_from c s tab (k + 1) (left - 1)) m₀ bs₀
-    used_turn f = rest_goes s.count m m' m₀ (blocks_of c s t) (used_from c s tab (k + 1) (left - 1)) bs₀ r p f there
+    pub used_turn : r ≡ true → Rest s.count m' (used_from c s tab (k + 1) less) m₀ bs₀
+    used_turn f = rest_goes s.count m m' m₀ (blocks_of c s t) (used_from c s tab (k + 1) less) bs₀ r p f there
 
     pub used_stop : r ≡ false → Marked s.count m₀ bs₀ false m'
-    used_stop f = rest_stops s.count m m' m₀ (blocks_of c s t) (used_from c s tab (k + 1) (left - 1)) bs₀ r p f there
+    used_stop f = rest_stops s.count m m' m₀ (blocks_of c s t) (used_from c s tab (k + 1) less) bs₀ r p f there
 
-  pub used-done : (k left : ℕ) (m m₀ bs₀ : List ℕ) → left ≤ 0 → Rest s.count m (used_from c s tab k left) m₀ bs₀ → Marked s.count m₀ bs₀ true m
-  used-done k left m m₀ bs₀ h rest = rest-ends s.count m m₀ (used_from c s tab k left) bs₀ (used_end k left h) rest
+  pub used-done : left ≡ 0 → Marked s.count m₀ bs₀ true m
+  unfolding used_from
+  used-done h = rest-ends s.count m m₀ (used_from c s tab k left) bs₀ (rw h) rest
 
 -- ---- the table's blocks first
 
@@ -63,8 +40,8 @@ module _ (c : List ℕ) (s : Shape) (t : Desc) (e : t ≡ table c s) (m m₁ m�
   unfolding table_blocks
   table-marked = rw (a, e) at p
 
-  pub all_stops : r ≡ false → Marked s.count (over m 0 (replicate s.count 0)) (table_blocks c s ++ ys) false m₂
-  all_stops f = part_stops s.count _ m₂ (table_blocks c s) ys r table-marked f
+  pub all_stops : r ≡ false → Marked s.count (over m 0 (replicate s.count 0)) (table_blocks c s ++ ys) r m₂
+  all_stops f = rw f (part_stops s.count _ m₂ (table_blocks c s) ys r table-marked f)
 
   pub all_goes : r ≡ true → (q : Bool) (m₃ : List ℕ) → Marked s.count m₂ ys q m₃ → Marked s.count (over m 0 (replicate s.count 0)) (table_blocks c s ++ ys) q m₃
   all_goes f q m₃ t' = part_goes s.count _ m₂ m₃ (table_blocks c s) ys r q table-marked f t'

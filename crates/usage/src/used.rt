@@ -8,20 +8,20 @@ ghost use Rattle.layout.specs.Ranges.{Small};
 ghost use Rattle.tables.specs.OnPage.{Reads};
 ghost use Rattle.usage.specs.Used.{blocks_of, used_from, InUse};
 
+use blocks::chain::END8;
 use layout::{Desc, Shape};
 use marking::marks::mark_surplus;
 use memory::runs::clear;
-use stream::descs::{descriptor, descriptors, table};
+use stream::descs::{descriptors, table};
+use tables::forms::descriptor_at;
 
 // Marks a stream's blocks, by its descriptor; a free one has none.
+#[tactic(auto, unfolding(crate::specs::Used::blocks_of, layout::specs::Marks::mark_ok, layout::specs::Marks::mark_set))]
 fn mark_one(card: &[u8], s: Shape, t: Desc, marks: &mut [u8]) -> bool
     requires { Small card.now s }
     ensures { (result ≡ mark_ok s.count marks.old (blocks_of card.now s t)) × (marks.new ≡ mark_set s.count marks.old (blocks_of card.now s t)) }
 {
-    if t.top == 0xffff_ffff_ffff_ffff {
-        return true;
-    }
-    mark_surplus(&*card, s, t.top, t.reserved / s.size, 0, marks)
+    t.top == END8 || mark_surplus(card, s, t.top, t.reserved / s.size, 0, marks)
 }
 
 // Marks the blocks of the first `n` streams, by the table's bytes.
@@ -29,14 +29,10 @@ fn mark_streams(card: &[u8], s: Shape, tab: &[u8], n: usize, marks: &mut [u8]) -
     requires { Small card.now s × (n ≤ 65536) }
     ensures { (result ≡ mark_ok s.count marks.old (used_from card.now s tab.now 0 n)) × (marks.new ≡ mark_set s.count marks.old (used_from card.now s tab.now 0 n)) }
 {
-    let mut k = 0;
-    let mut left = n;
-    while 0 < left {
-        if !mark_one(&*card, s, descriptor(&*tab, 8 + 25 * k), marks) {
+    for k in 0..n {
+        if !mark_one(card, s, descriptor_at(tab, k), marks) {
             return false;
         }
-        k += 1;
-        left -= 1;
     }
     true
 }
@@ -46,13 +42,10 @@ fn mark_used(card: &[u8], s: Shape, tab: &[u8], n: usize, marks: &mut [u8]) -> b
     requires { Small card.now s × (n ≤ 65536) }
     ensures { (result ≡ mark_ok s.count (over marks.old 0 (replicate s.count 0)) (table_blocks card.now s ++ used_from card.now s tab.now 0 n)) × (marks.new ≡ mark_set s.count (over marks.old 0 (replicate s.count 0)) (table_blocks card.now s ++ used_from card.now s tab.now 0 n)) }
 {
-    let count = s.count;
-    clear(marks, 0, count);
-    let t = table(&*card, s);
-    if !mark_surplus(&*card, s, t.top, t.reserved / s.size, 0, marks) {
-        return false;
-    }
-    mark_streams(&*card, s, &*tab, n, marks)
+    clear(marks, 0, s.count);
+    let t = table(card, s);
+    mark_surplus(card, s, t.top, t.reserved / s.size, 0, marks)
+        && mark_streams(card, s, tab, n, marks)
 }
 
 // Rule 6: no block is in two places, and none is out of range. Then the marks hold the blocks in use, for rule 7.
@@ -60,6 +53,5 @@ pub fn rule6(card: &[u8], s: Shape, tab: &[u8], marks: &mut [u8]) -> bool
     requires { Small card.now s × (rule4 card.now s ≡ true) × Reads tab.now (table_bytes card.now s) × (s.count ≤ length marks.old) }
     ensures { (result ≡ rule6 card.now s) × (result ≡ true → InUse card.now s marks.new) }
 {
-    let n = descriptors(&*card, s);
-    mark_used(&*card, s, &*tab, n, marks)
+    mark_used(card, s, tab, descriptors(card, s), marks)
 }

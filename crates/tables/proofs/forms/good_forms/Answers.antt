@@ -1,18 +1,16 @@
 -- `tables::forms::good_forms` keeps its promise.
 use mathlib.Core.Path.{refl, ◌∙◌}
 use native.Mathlib.Omega.{arith}
-use Rattle.tables.proofs.Every.{all_done}
-use Rattle.tables.proofs.Shaped.{forms_stop, forms_turn}
+use Rattle.std.proofs.lemmas.Grind.{common_steps}
+use Rattle.std.proofs.lemmas.Iterator.{YieldsList-from_range}
+use Rattle.std.proofs.lemmas.Iterator.Search.{all_from_yields_List}
+use Rattle.layout.specs.Streams.{live, dead}
+use Rattle.layout.specs.Sound.{good_form}
+use Rattle.tables.proofs.Every.{every_is}
 use Rattle.tables.proofs.forms.good_forms.Goals as goal
 
-pub loop-left-init : goal.loop-left-init
-loop-left-init c = (omega arith, refl)
-
-pub returns-then-not-good_form : goal.returns-then-not-good_form
-returns-then-not-good_form c = forms_stop _ _ _ _ _ _ c.loop-left-test.true c.descriptor.ensures c.good_form.ensures c.if-not-good_form.true ∙ c.loop-left.invariant.1
-
-pub loop-left-preserved : goal.loop-left-preserved
-loop-left-preserved c = (omega (arith, c.loop-left.invariant.0), forms_turn _ _ _ _ _ _ c.loop-left-test.true c.descriptor.ensures c.good_form.ensures c.if-not-good_form.false ∙ c.loop-left.invariant.1)
-
 pub returns : goal.returns
-returns c = all_done _ _ _ c.loop-left-test.false ∙ c.loop-left.invariant.1
+unfolding live dead
+returns c =
+    let p = good_form c.args.s c.args.tab.now in
+    all_from_yields_List p _ _ _ c.all.ensures.ran (YieldsList-from_range 0 c.args.n c.args.n refl (omega arith)) (λ x b q h. grind (arith, common_steps)) ∙ every_is p 0 c.args.n

@@ -1,20 +1,14 @@
 -- `tables::spare::right_marks` keeps its promise.
 use mathlib.Core.Path.{refl, ◌∙◌}
 use native.Mathlib.Omega.{arith}
-use Rattle.tables.proofs.Every.{all_stop, all-turn, all_done}
+use Rattle.std.proofs.lemmas.Grind.{common_steps}
+use Rattle.std.proofs.lemmas.Iterator.{YieldsList-from_range}
+use Rattle.std.proofs.lemmas.Iterator.Search.{all_from_yields_List}
+use Rattle.tables.specs.Compared.{right_mark, asked}
+use Rattle.tables.proofs.Every.{every_is}
 use Rattle.tables.proofs.spare.right_marks.Goals as goal
 
-pub loop-left-init : goal.loop-left-init
-loop-left-init c = (omega arith, refl)
-
-pub right_mark-requires : goal.right_mark-requires
-right_mark-requires c = omega (arith, c.loop-left.invariant.0, c.requires)
-
-pub returns-then-not-right_mark : goal.returns-then-not-right_mark
-returns-then-not-right_mark c = all_stop _ _ _ _ c.loop-left-test.true c.right_mark.ensures c.if-not-right_mark.true ∙ c.loop-left.invariant.1
-
-pub loop-left-preserved : goal.loop-left-preserved
-loop-left-preserved c = (omega (arith, c.loop-left.invariant.0), all-turn _ _ _ _ c.loop-left-test.true c.right_mark.ensures c.if-not-right_mark.false ∙ c.loop-left.invariant.1)
-
 pub returns : goal.returns
-returns c = all_done _ _ _ c.loop-left-test.false ∙ c.loop-left.invariant.1
+returns c =
+    let p = right_mark c.args.marks.now (asked c.args.tab.now c.args.alive) in
+    all_from_yields_List p _ _ _ c.all.ensures.ran (YieldsList-from_range 0 c.args.n c.args.n refl (omega arith)) (λ x b q h. grind (arith, common_steps)) ∙ every_is p 0 c.args.n
