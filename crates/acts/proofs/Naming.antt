@@ -1,9 +1,9 @@
 -- A listed entry: its name in the tray.
-use mathlib.Core.Path.{◌≡◌, sym, ap, ◌∙◌}
+use mathlib.Core.Path.{◌≡◌, ap, ◌∙◌}
 use mathlib.Core.List.{List}
 use Rattle.std.specs.Prelude.{Option, Some, None}
 use Prim.Native.Nat.{ℕ, ◌+◌}
-use lib.ListN.{length, get_or, take, drop, get_or-eq_default}
+use lib.ListN.{get_or, take, drop, get_or-eq_default}
 use Rattle.layout.specs.Bytes.{over}
 use Rattle.layout.specs.Streams.{data_of, contents, stream, stream_bytes}
 use Rattle.layout.specs.Filing.{Entry, entries, entries_of, nothing}

@@ -1,15 +1,15 @@
 -- What the searches in the root tell, in the words of the calls' definitions.
-use mathlib.Core.Path.{◌≡◌, ap, ◌∙◌}
-use mathlib.Core.Bool.{Bool, true, false}
+use mathlib.Core.Path.{◌≡◌, ap}
+use mathlib.Core.Bool.{true, false}
 use mathlib.Core.List.{List}
-use Rattle.std.specs.Prelude.{Option, Some, None}
-use Prim.Native.Nat.{ℕ, ◌≤◌, ◌<◌}
+use Rattle.std.specs.Prelude.{Some, None}
+use Prim.Native.Nat.{ℕ, ◌<◌}
 use lib.ListN.{length, get_or}
 use borrow.Author.Tests.{lt-ltb, le-ltb}
-use Rattle.layout.specs.Filing.{look_in, nothing}
+use Rattle.layout.specs.Filing.{nothing}
 use Rattle.layout.specs.Calls.{root_of, known, entry_of, index_of}
 use Rattle.filing.specs.Located.{located, numbered}
-use Rattle.filing.proofs.Answers.{found_known, not_found, row_there, no_row}
+use Rattle.filing.proofs.Answers.{found_known, not_found, row_there}
 use Rattle.filing.specs.declared.entries.Found.{Found}
 use Rattle.filing.specs.declared.listing.Row.{Row}
 

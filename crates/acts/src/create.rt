@@ -19,6 +19,7 @@ use stream::lengths::lengthen_table;
 
 // L62, L63: where the table's first descriptor stands, and how many bytes a descriptor has.
 pub(crate) const FIRST_PLACE: usize = 8;
+
 pub(crate) const LENGTH: usize = 25;
 
 // The index that a new stream gets.
@@ -62,6 +63,7 @@ fn add_descriptor(card: &mut [u8], s: Shape)
 }
 
 // The descriptor that a new stream gets.
+#[tactic(auto, unfolding(layout::specs::Calls::described))]
 pub fn describe(card: &mut [u8], s: Shape)
     requires { Small card.old s × Fits card.old s }
     ensures { card.new ≡ described card.old s }
