@@ -9,7 +9,7 @@ use lib.Seq.{take_all}
 use Rattle.layout.specs.Bytes.{bytes, over, put}
 use Rattle.layout.specs.Pyramid.{height}
 use Rattle.layout.specs.Blocks.{fan}
-use Rattle.layout.specs.Streams.{data_of, laid, stream, in_stream, lengthened, shortened}
+use Rattle.layout.specs.Streams.{data_of, tall, laid, stream, in_stream, lengthened, shortened}
 use Rattle.layout.specs.Filing.{entry_bytes}
 use Rattle.laws.proofs.Picks.{leb_yes, leb_no}
 use Rattle.laws.proofs.ByteLaws.{length-bytes, over-append, take-over}
@@ -47,12 +47,12 @@ module _ (c : List ℕ) (s : Shape) (t : Desc) where
   pub length_part : (q n : ℕ) → q + n ≤ t.size → length (take n (drop q (bytes_of c s t))) ≡ n
   length_part q n h = rw (length-take, length-drop, length-contents) (omega arith)
 
-  pub page-pulled : (c₁ sheet : List ℕ) (p q n h : ℕ) → n ≤ page → q + n ≤ t.size → h ≡ height (fan s) (data_of s t) → sheet ≡ over (replicate page 0) 0 (take n (drop q (bytes_of c s t)))
-      → c₁ ≡ laid c s t.top h p (take n (drop 0 sheet)) → c₁ ≡ moved c s t p q n
-  page-pulled c₁ sheet p q n h a b e f g =
+  pub page-pulled : (c₁ sheet : List ℕ) (p q n : ℕ) → n ≤ page → q + n ≤ t.size → sheet ≡ over (replicate page 0) 0 (take n (drop q (bytes_of c s t)))
+      → c₁ ≡ laid c s t.top (tall s (data_of s t)) p (take n (drop 0 sheet)) → c₁ ≡ moved c s t p q n
+  page-pulled c₁ sheet p q n a b f g =
       let vs = take n (drop q (bytes_of c s t)) in
       let x : take n sheet ≡ vs = rw f (take-over (replicate page 0) vs n (sym (length_part q n b)) (rw length-replicate a)) in
-      g ∙ rw (x, e)
+      g ∙ rw x
 
 module _ (s : Shape) (t : Desc) where
   -- the bound does not matter where it is not below the bytes that are left

@@ -7,15 +7,16 @@ ghost use Rattle.layout.specs.Ranges.{Small};
 ghost use Rattle.filing.specs.Edited.{entered, moved, drawn, removed};
 
 use laying::gather::gather_stream;
-use laying::lay::lay;
+use laying::lay::lay_stream;
 use layout::{Desc, Shape};
 use memory::bytes::put_number;
-use memory::numbers::{least, minus};
 use memory::runs::copy;
-use pyramids::pyramid::height;
 use stream::descs::stream;
 use stream::inside::lay_in_stream;
 use stream::lengths::{lengthen, shorten};
+
+// The bytes that are pulled at a time.
+const MOVED: usize = 4096;
 
 // An entry as it is written goes to the start of `page`.
 fn put_entry(page: &mut [u8], index: usize, name: &[u8])
@@ -43,10 +44,9 @@ fn pull_page(card: &mut [u8], s: Shape, t: Desc, p: usize, q: usize, n: usize)
     requires { Small card.old s × (p < 2 ^ 62) × (n ≤ 4096) × (q + n ≤ t.size) }
     ensures { card.new ≡ moved card.old s t p q n }
 {
-    let h = height(s.size / 4, t.reserved / s.size);
-    let mut page = [0; 4096];
+    let mut page = [0; MOVED];
     gather_stream(card, s, t, q, &mut page, 0, n);
-    lay(card, s, t.top, h, p, &page, 0, n);
+    lay_stream(card, s, t, p, &page, 0, n);
 }
 
 // What the stream that `t` describes has from place `q` on is pulled forward to place `p`, page by page.
@@ -58,7 +58,7 @@ pub fn pull(card: &mut [u8], s: Shape, t: Desc, p: usize, q: usize)
     let mut to = p;
     let mut from = q;
     while from < size {
-        let n = least(4096, size - from);
+        let n = MOVED.min(size - from);
         pull_page(card, s, t, to, from, n);
         to += n;
         from += n;
@@ -72,5 +72,5 @@ pub fn remove(card: &mut [u8], s: Shape, k: usize, at: usize, n: usize, marks: &
 {
     let t = stream(card, s, k);
     pull(card, s, t, at, at + n);
-    shorten(card, s, k, minus(t.size, n), marks);
+    shorten(card, s, k, t.size.saturating_sub(n), marks);
 }

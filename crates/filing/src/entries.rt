@@ -10,7 +10,6 @@ use crate::names::name_is;
 use crate::pages::{PAGE, PIECE, turn};
 use layout::{Desc, Shape};
 use memory::bytes::number;
-use memory::numbers::least;
 use stream::descs::stream;
 
 // The first 6 bytes of an entry: the index of its stream, and the length of its name.
@@ -51,7 +50,7 @@ pub fn find(card: &[u8], s: Shape, t: Desc, name: &[u8]) -> Option<Found>
     while at < size {
         from = turn(&*card, s, t, &mut page, from, at);
         let o = at - from;
-        let e = o + least(PIECE, size - at);
+        let e = o + PIECE.min(size - at);
         let h = read_head(&page[o..e]);
         if name_is(&page[o..e], &*name) {
             return Some(Found {
@@ -60,7 +59,7 @@ pub fn find(card: &[u8], s: Shape, t: Desc, name: &[u8]) -> Option<Found>
                 at,
             });
         }
-        at = at + 6 + h.length;
+        at += 6 + h.length;
         number += 1;
     }
     None

@@ -20,19 +20,19 @@ pub overflow_sub-o : goal.overflow_sub-o
 overflow_sub-o c = omega (arith, c.turn-from.ensures.low)
 
 pub slice_bounds-read_head-end : goal.slice_bounds-read_head-end
-slice_bounds-read_head-end c = omega (arith, turned_fits _ _ _ _ _ _ _ c.turn-from.ensures (sym (length-contents _ _ _ _ _)) refl c.least.ensures)
+slice_bounds-read_head-end c = omega (arith, turned_fits _ _ _ _ _ _ _ c.turn-from.ensures (sym (length-contents _ _ _ _ _)) refl c.min.ensures)
 
 pub slice_bounds-name_is-end : goal.slice_bounds-name_is-end
-slice_bounds-name_is-end c = omega (arith, turned_fits _ _ _ _ _ _ _ c.turn-from.ensures (sym (length-contents _ _ _ _ _)) refl c.least.ensures)
+slice_bounds-name_is-end c = omega (arith, turned_fits _ _ _ _ _ _ _ c.turn-from.ensures (sym (length-contents _ _ _ _ _)) refl c.min.ensures)
 
 pub returns-then-name_is : goal.returns-then-name_is
 returns-then-name_is c = let long = sym (length-contents _ _ _ _ _) in
-    let w = turned_piece _ _ _ _ _ _ _ c.turn-from.ensures long refl c.least.ensures in
+    let w = turned_piece _ _ _ _ _ _ _ c.turn-from.ensures long refl c.min.ensures in
     find_here _ _ _ _ _ _ _ _ long c.loop-at-test.true (piece_index _ _ _ w _ c.read_head-h.ensures.0) (piece_length _ _ _ w _ c.read_head-h.ensures.1) (piece_named _ _ _ w _ _ c.requires.2 c.name_is.ensures) c.if-name_is.true ∙ c.loop-at.invariant.3
 
 pub loop-at-preserved : goal.loop-at-preserved
 loop-at-preserved c = let long = sym (length-contents _ _ _ _ _) in
-    let w = turned_piece _ _ _ _ _ _ _ c.turn-from.ensures long refl c.least.ensures in (
+    let w = turned_piece _ _ _ _ _ _ _ c.turn-from.ensures long refl c.min.ensures in (
       c.turn-from.ensures.paged,
       omega (arith, c.loop-at.invariant.1),
       omega (arith, c.loop-at-test.true, c.requires.1, c.read_head-h.ensures.2),

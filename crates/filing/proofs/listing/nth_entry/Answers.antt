@@ -20,18 +20,18 @@ pub overflow_sub-o : goal.overflow_sub-o
 overflow_sub-o c = omega (arith, c.turn-from.ensures.low)
 
 pub slice_bounds-read_head-end : goal.slice_bounds-read_head-end
-slice_bounds-read_head-end c = omega (arith, turned_fits _ _ _ _ _ _ _ c.turn-from.ensures (sym (length-contents _ _ _ _ _)) refl c.least.ensures)
+slice_bounds-read_head-end c = omega (arith, turned_fits _ _ _ _ _ _ _ c.turn-from.ensures (sym (length-contents _ _ _ _ _)) refl c.min.ensures)
 
 pub returns-then-left-eq0 : goal.returns-then-left-eq0
 returns-then-left-eq0 c = let long = sym (length-contents _ _ _ _ _) in
-    let w = turned_piece _ _ _ _ _ _ _ c.turn-from.ensures long refl c.least.ensures in record {
-      numbered = nth_here _ _ _ _ _ long c.loop-at-test.true (piece_index _ _ _ w _ c.read_head-h.ensures.0) (piece_length _ _ _ w _ c.read_head-h.ensures.1) _ _ _ c.if-left-eq0.true c.minus.ensures c.least-then-left-eq0.ensures ∙ c.loop-at.invariant.2;
+    let w = turned_piece _ _ _ _ _ _ _ c.turn-from.ensures long refl c.min.ensures in record {
+      numbered = nth_here _ _ _ _ _ long c.loop-at-test.true (piece_index _ _ _ w _ c.read_head-h.ensures.0) (piece_length _ _ _ w _ c.read_head-h.ensures.1) _ _ _ c.if-left-eq0.true c.saturating_sub.ensures c.min-then-left-eq0.ensures ∙ c.loop-at.invariant.2;
       at = omega (arith, c.loop-at-test.true);
     }
 
 pub loop-at-preserved : goal.loop-at-preserved
 loop-at-preserved c = let long = sym (length-contents _ _ _ _ _) in
-    let w = turned_piece _ _ _ _ _ _ _ c.turn-from.ensures long refl c.least.ensures in (
+    let w = turned_piece _ _ _ _ _ _ _ c.turn-from.ensures long refl c.min.ensures in (
       c.turn-from.ensures.paged,
       omega (arith, c.loop-at-test.true, c.requires.1, c.read_head-h.ensures.2),
       nth_next _ _ _ _ _ long c.loop-at-test.true (piece_index _ _ _ w _ c.read_head-h.ensures.0) (piece_length _ _ _ w _ c.read_head-h.ensures.1) _ c.if-left-eq0.false ∙ c.loop-at.invariant.2,
