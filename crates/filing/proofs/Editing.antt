@@ -77,6 +77,16 @@ module _ (s : Shape) (t : Desc) where
   unfolding drawn
   drawn_stop g c p q h k = drawn_bound g 0 c p q h (omega arith)
 
+  -- the last page may be short
+  pub drawn_page : (c : List ℕ) (p q from n : ℕ) → q ≤ from → from < t.size → n ≡ min page (t.size - from)
+      → drawn t.size (moved c s t (p + (from - q)) from n) s t (p + (from + page - q)) (from + page) ≡ drawn t.size c s t (p + (from - q)) from
+  drawn_page c p q from n a h e = elim (dec_le page (t.size - from)) [
+    | yes l ↦ (let z : n ≡ page = omega arith in
+        let y : p + (from + page - q) ≡ p + (from - q) + page = omega arith in
+        rw y (ap (λ (x : ℕ). drawn t.size (moved c s t (p + (from - q)) from n) s t (p + (from - q) + x) (from + x)) (sym z) ∙ drawn-step t.size c (p + (from - q)) from n (omega arith) h e))
+    | no l ↦ drawn_stop t.size _ _ _ (omega arith) (omega arith) ∙ sym (drawn_stop t.size _ (p + (from - q) + n) (from + n) (omega arith) (omega arith)) ∙ drawn-step t.size c (p + (from - q)) from n (omega arith) h e
+  ]
+
 pub taken_out : (c c₁ c₂ : List ℕ) (s : Shape) (k at n m : ℕ) (t : Desc) → t ≡ stream c s k → c₁ ≡ drawn t.size c s t at (at + n) → m ≡ t.size - n → c₂ ≡ shortened c₁ s k m → c₂ ≡ removed c s k at n
 unfolding removed
 taken_out c c₁ c₂ s k at n m t e f g h = h ∙ rw (g, f, e)

@@ -55,13 +55,9 @@ pub fn pull(card: &mut [u8], s: Shape, t: Desc, p: usize, q: usize)
     ensures { card.new ≡ drawn t.size card.old s t p q }
 {
     let size = t.size;
-    let mut to = p;
-    let mut from = q;
-    while from < size {
+    for from in (q..size).step_by(MOVED) {
         let n = MOVED.min(size - from);
-        pull_page(card, s, t, to, from, n);
-        to += n;
-        from += n;
+        pull_page(card, s, t, p + (from - q), from, n);
     }
 }
 
