@@ -7,8 +7,6 @@ use native.Mathlib.Omega.{arith}
 use lib.ListN.{length, take, drop, replicate, length-append, length-take, length-drop, length-replicate}
 use lib.Seq.{take_all}
 use Rattle.layout.specs.Bytes.{bytes, over, put}
-use Rattle.layout.specs.Pyramid.{height}
-use Rattle.layout.specs.Blocks.{fan}
 use Rattle.layout.specs.Streams.{data_of, tall, laid, stream, in_stream, lengthened, shortened}
 use Rattle.layout.specs.Filing.{entry_bytes}
 use Rattle.laws.proofs.Picks.{leb_yes, leb_no}

@@ -4,12 +4,10 @@ use mathlib.Core.Logic.{◌≢◌}
 use mathlib.Core.Bool.{Bool, true, false, not}
 use mathlib.Core.List.{List, [], ◌∷◌}
 use Prim.Native.Nat.{ℕ, suc, ◌+◌, ◌-◌, min, ◌≤◌, ◌<◌}
-use native.Mathlib.Numerals.{add-one}
 use native.Mathlib.Omega.{arith}
-use lib.ListN.{length, get_or, drop, length-take, length-drop, drop_of_length-le}
-use lib.Seq.{drop-cons, get_or-take, get_or-drop}
+use lib.ListN.{length, get_or, drop, length-take, length-drop}
+use lib.Seq.{get_or-take, get_or-drop}
 use lib.Dec.{eqb, leb}
-use borrow.Author.Tests.{ne_eqb}
 use Rattle.layout.specs.Limits.{slash, longest_name}
 use Rattle.layout.specs.Bytes.{holds, same, matches, both}
 use Rattle.layout.specs.Filing.{name_length, entry_at, good_name}
