@@ -6,6 +6,7 @@ ghost use Rattle.layout.specs.Filing.{entry_bytes};
 ghost use Rattle.layout.specs.Ranges.{Small};
 ghost use Rattle.filing.specs.Edited.{entered, moved, drawn, removed};
 
+use crate::entries::HEAD;
 use laying::gather::gather_stream;
 use laying::lay::lay_stream;
 use layout::{Desc, Shape};
@@ -14,6 +15,9 @@ use memory::runs::copy;
 use stream::descs::stream;
 use stream::inside::lay_in_stream;
 use stream::lengths::{lengthen, shorten};
+
+// The bytes of an entry with the longest name.
+const LONGEST: usize = 70;
 
 // The bytes that are pulled at a time.
 const MOVED: usize = 4096;
@@ -24,7 +28,7 @@ fn put_entry(page: &mut [u8], index: usize, name: &[u8])
 {
     put_number(page, 0, 4, index);
     put_number(page, 4, 2, name.len());
-    copy(page, 6, name, 0, name.len());
+    copy(page, HEAD, name, 0, name.len());
 }
 
 // Directory `k`, which is `p` bytes long, gets an entry at its end.
@@ -32,8 +36,8 @@ pub fn append(card: &mut [u8], s: Shape, k: usize, p: usize, index: usize, name:
     requires { Small card.old s × (k < 2 ^ 56) × (p < 2 ^ 61) × (length name.now ≤ 64) }
     ensures { card.new ≡ entered card.old s k p index name.now }
 {
-    let n = 6 + name.len();
-    let mut page = [0; 70];
+    let n = HEAD + name.len();
+    let mut page = [0; LONGEST];
     put_entry(&mut page, index, name);
     lengthen(card, s, k, p + n);
     lay_in_stream(card, s, k, p, &page, n);

@@ -5,7 +5,7 @@ ghost use Rattle.layout.specs.Filing.{entries};
 ghost use Rattle.layout.specs.Ranges.{Small};
 ghost use Rattle.filing.specs.Located.{numbered};
 
-use crate::entries::read_head;
+use crate::entries::{HEAD, read_head};
 use crate::pages::{PAGE, PIECE, turn};
 use layout::{Desc, Shape};
 
@@ -28,6 +28,7 @@ pub fn nth_entry(card: &[u8], s: Shape, t: Desc, n: usize) -> Option<Row>
     let mut from = size;
     let mut at = 0;
     let mut left = n;
+    // As in `find`: the step is the entry's own length.
     while at < size {
         from = turn(&*card, s, t, &mut page, from, at);
         let o = at - from;
@@ -37,10 +38,10 @@ pub fn nth_entry(card: &[u8], s: Shape, t: Desc, n: usize) -> Option<Row>
             return Some(Row {
                 index: h.index,
                 at,
-                length: h.length.min(size.saturating_sub(at + 6)),
+                length: h.length.min(size.saturating_sub(at + HEAD)),
             });
         }
-        at += 6 + h.length;
+        at += HEAD + h.length;
         left -= 1;
     }
     None

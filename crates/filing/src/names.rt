@@ -3,6 +3,7 @@ ghost use Rattle.std.specs.Prelude.{◌≡◌, ◌≤◌, length};
 ghost use Rattle.layout.specs.Bytes.{same};
 ghost use Rattle.layout.specs.Filing.{entry_at, good_name};
 
+use crate::entries::HEAD;
 use layout::limits::{longest_name, slash};
 use memory::bytes::number;
 use memory::runs::matches;
@@ -19,6 +20,6 @@ pub fn name_is(piece: &[u8], name: &[u8]) -> bool
     requires { length name.now ≤ 64 }
     ensures { result ≡ same (entry_at piece.now 0).name name.now }
 {
-    let m = number(&*piece, 4, 2).min(piece.len().saturating_sub(6));
-    m == name.len() && matches(&*piece, 6, &*name)
+    let m = number(&*piece, 4, 2).min(piece.len().saturating_sub(HEAD));
+    m == name.len() && matches(&*piece, HEAD, &*name)
 }
