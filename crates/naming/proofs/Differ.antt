@@ -1,15 +1,15 @@
 -- Names that differ from all earlier ones: the definition's test, and the loop over the entries.
 use mathlib.Core.Path.{◌≡◌, refl, sym, ap, ◌∙◌}
-use mathlib.Core.Logic.{◌⊎◌, inl, inr}
-use mathlib.Core.Bool.{Bool, true, false, not}
+use mathlib.Core.Logic.{inl, inr}
+use mathlib.Core.Bool.{Bool, true, false}
 use mathlib.Core.List.{List, [], ◌∷◌, map}
-use Prim.Native.Nat.{ℕ, zero, suc, ◌+◌, ◌-◌, ◌*◌, ◌≤◌, ◌<◌}
+use Prim.Native.Nat.{ℕ, zero, suc, ◌+◌, ◌-◌, ◌≤◌, ◌<◌}
 use native.Mathlib.Decide.{ℕ_discrete}
 use native.Mathlib.Omega.{arith}
 use lib.ListN.{length, drop, replicate, length-drop, length-replicate, get_or-replicate}
 use lib.Dec.{T}
 use Rattle.std.specs.Prelude.{Option, Some, None}
-use Rattle.layout.specs.Bytes.{pick, both, num, same, run, all_b}
+use Rattle.layout.specs.Bytes.{pick, both, same, run, all_b}
 use Rattle.layout.specs.Filing.{Entry, name_length, entries_from, entries, distinct_names}
 use Rattle.laws.proofs.Lists.{In, Distinct, in_run, run_in}
 use Rattle.laws.proofs.Tests.{Is, is_not, is_same}

@@ -13,7 +13,9 @@ use layout::{Desc, Shape};
 
 // The buckets, and the numbers that mix a name's bytes into one.
 const BUCKETS: usize = 1024;
+
 const FACTOR: usize = 31;
+
 const MIXED: usize = 65536;
 
 // The most entries that a directory has.
@@ -88,7 +90,10 @@ impl Buckets {
         if self.met(card, s, t, before, name) {
             return None;
         }
-        self.links[i] = Link { at: at as u32, before };
+        self.links[i] = Link {
+            at: at as u32,
+            before,
+        };
         self.last[h] = (i + 1) as u16;
         Some(n)
     }
@@ -100,8 +105,14 @@ pub fn names_apart(card: &[u8], s: Shape, t: Desc) -> bool
     requires { Small card.now s × Tidy (bytes_of card.now s t) }
     ensures { result ≡ distinct_names (entries (bytes_of card.now s t)) }
 {
-    let none = Link { at: 0, before: NONE };
-    let mut buckets = Buckets { last: [NONE; BUCKETS], links: [none; ENTRIES] };
+    let none = Link {
+        at: 0,
+        before: NONE,
+    };
+    let mut buckets = Buckets {
+        last: [NONE; BUCKETS],
+        links: [none; ENTRIES],
+    };
     let mut page = [0; PAGE];
     let mut from = t.size;
     let mut at = 0;

@@ -1,7 +1,7 @@
 // Rule 8: the root's entries, their names, and the streams that they lead to.
-ghost use Rattle.std.specs.Prelude.{◌≡◌, ◌≢◌, true, ◌^◌, ◌<◌, ◌≤◌, length, set};
+ghost use Rattle.std.specs.Prelude.{◌≡◌, ◌≢◌, true, ◌^◌, ◌<◌, ◌≤◌, ◌∷◌, length, replicate, set};
 ghost use Rattle.layout.specs.Limits.{most_streams};
-ghost use Rattle.layout.specs.Bytes.{pick, both, num};
+ghost use Rattle.layout.specs.Bytes.{pick, both, num, over};
 ghost use Rattle.layout.specs.Marks.{fresh, mark_ok, mark_set};
 ghost use Rattle.layout.specs.Streams.{table_bytes};
 ghost use Rattle.layout.specs.Filing.{name_length, entries};
@@ -54,6 +54,16 @@ fn mark_entries(card: &[u8], s: Shape, t: Desc, n: usize, marks: &mut [u8]) -> b
     true
 }
 
+// Clears the marks and marks the streams that the root leads to, itself the first, up to the first entry that is not in order.
+#[tactic(auto, using(crate::proofs::Reached::none_of), unfolding(layout::specs::Marks::mark_ok, layout::specs::Marks::mark_set))]
+fn mark_root(card: &[u8], s: Shape, t: Desc, n: usize, marks: &mut [u8]) -> bool
+    requires { Small card.now s × (t.size < 2 ^ 32) }
+    ensures { (result ≡ both (tidy_from (bytes_of card.now s t) 0) (mark_ok n (over marks.old 0 (replicate n 0)) (0 ∷ indices (entries (bytes_of card.now s t))))) × (result ≡ true → marks.new ≡ mark_set n (over marks.old 0 (replicate n 0)) (0 ∷ indices (entries (bytes_of card.now s t)))) }
+{
+    clear(marks, 0, n);
+    mark(marks, n, 0) && mark_entries(card, s, t, n, marks)
+}
+
 // Rule 8: entry by entry to the very end, names good and not twice, and the streams that the root leads to, itself the first,
 // are the live ones, each once. The marks are lent for the work.
 pub fn rule8(card: &[u8], s: Shape, tab: &[u8], marks: &mut [u8]) -> bool
@@ -62,9 +72,5 @@ pub fn rule8(card: &[u8], s: Shape, tab: &[u8], marks: &mut [u8]) -> bool
 {
     let n = descriptors(card, s);
     let t = descriptor_at(tab, 0);
-    clear(marks, 0, n);
-    mark(marks, n, 0)
-        && mark_entries(card, s, t, n, marks)
-        && right_marks(tab, true, n, marks)
-        && names_apart(card, s, t)
+    mark_root(card, s, t, n, marks) && right_marks(tab, true, n, marks) && names_apart(card, s, t)
 }
