@@ -8,8 +8,10 @@ use layout::Shape;
 use memory::bytes::{number, put_number};
 use memory::runs::clear;
 
-// All bits set, in the header's 8 bytes and in a link's 4: no block.
+// All bits set in 8 bytes, as the header says that there is no block.
 pub const END8: usize = 0xffff_ffff_ffff_ffff;
+
+// All bits set in 4 bytes, as a link says it.
 pub const END4: usize = 0xffff_ffff;
 
 // A link's number as the header would hold it.

@@ -1,7 +1,7 @@
 // Where blocks and their slots stand, and what a slot holds.
 ghost use Rattle.std.specs.Prelude.{◌≡◌, ◌+◌, ◌*◌, ◌^◌, min, ◌<◌, ◌≤◌, length};
 ghost use Rattle.layout.specs.Bytes.{num, put};
-ghost use Rattle.layout.specs.Blocks.{place, slot_place, slot};
+ghost use Rattle.layout.specs.Blocks.{fan, place, slot_place, slot};
 ghost use Rattle.layout.specs.Ranges.{Small};
 
 use layout::Shape;
@@ -9,6 +9,13 @@ use memory::bytes::{number, put_number};
 
 // Blocks from this number on are past the end of every card.
 const FAR: usize = 0x1_0000_0000;
+
+// How many indices a redirector holds.
+pub fn fan(s: Shape) -> usize
+    ensures { (result ≡ fan s) × (64 ≤ s.size → 4 ≤ result) }
+{
+    s.size / 4
+}
 
 // Where block `b` starts; past the end of every card for a `b` above 2^32.
 pub fn place(s: Shape, b: usize) -> usize

@@ -1,14 +1,15 @@
 // Bytes laid into a stream, block by block along each lowest redirector.
-ghost use Rattle.std.specs.Prelude.{◌≡◌, ◌+◌, ◌^◌, ◌<◌, ◌≤◌, length, take, drop};
+ghost use Rattle.std.specs.Prelude.{◌≡◌, ◌+◌, ◌/◌, ◌%◌, ◌^◌, ◌<◌, ◌≤◌, length, take, drop};
 ghost use Rattle.layout.specs.Bytes.{over};
 ghost use Rattle.layout.specs.Blocks.{place};
-ghost use Rattle.layout.specs.Streams.{laid_row, laid};
+ghost use Rattle.layout.specs.Streams.{data_of, tall, laid_row, laid};
 ghost use Rattle.layout.specs.Ranges.{Small};
 
+use crate::levels::levels;
+use crate::parts::piece_in;
 use blocks::places::{place, slot};
 use blocks::reader::node;
-use layout::Shape;
-use memory::numbers::least;
+use layout::{Desc, Shape};
 use memory::runs::copy;
 
 // `n` bytes of `given` from `from` on go into block `b` from its byte `r` on.
@@ -20,32 +21,16 @@ fn lay_block(card: &mut [u8], s: Shape, b: usize, r: usize, given: &[u8], from: 
     copy(card, at, &*given, from, n);
 }
 
-// `n` bytes of `given` from `from` on go into the blocks that the slots of block `b` name, from byte `r` of slot `i`'s block on.
-fn lay_row(
-    card: &mut [u8],
-    s: Shape,
-    b: usize,
-    i: usize,
-    r: usize,
-    given: &[u8],
-    from: usize,
-    n: usize,
-)
-    requires { Small card.old s × (r < s.size) × (i + n ≤ 4294967296) × (from + n ≤ length given.now) }
-    ensures { card.new ≡ laid_row n card.old s b i r (take n (drop from given.now)) }
+// `n` bytes of `given` from `from` on go into the blocks that the slots of block `b` name, from place `p` of these on.
+fn lay_row(card: &mut [u8], s: Shape, b: usize, p: usize, given: &[u8], from: usize, n: usize)
+    requires { Small card.old s × (p + n ≤ 4294967296) × (from + n ≤ length given.now) }
+    ensures { card.new ≡ laid_row n card.old s b (p / s.size) (p % s.size) (take n (drop from given.now)) }
 {
     let size = s.size;
-    let mut k = i;
-    let mut at = r;
-    let mut q = from;
-    let mut left = n;
-    while 0 < left {
-        let m = least(size - at, left);
-        lay_block(card, s, slot(card, s, b, k), at, &*given, q, m);
-        k += 1;
-        at = 0;
-        q += m;
-        left -= m;
+    for k in p / size..(p + n).div_ceil(size) {
+        let x = piece_in(size, p, n, k);
+        let to = slot(card, s, b, k);
+        lay_block(card, s, to, x.from, &*given, from + x.done, x.n);
     }
 }
 
@@ -67,20 +52,18 @@ pub fn lay(
         lay_block(card, s, top, p, &*given, from, n);
         return;
     }
-    let size = s.size;
-    let f = size / 4;
-    let mut q = p / size / f;
-    let mut i = p / size % f;
-    let mut r = p % size;
-    let mut at = from;
-    let mut left = n;
-    while 0 < left {
-        let m = least((f - i) * size - r, left);
-        lay_row(card, s, node(card, s, top, h - 1, q), i, r, &*given, at, m);
-        q += 1;
-        i = 0;
-        r = 0;
-        at += m;
-        left -= m;
+    let row = s.size / 4 * s.size;
+    for q in p / row..(p + n).div_ceil(row) {
+        let x = piece_in(row, p, n, q);
+        let b = node(card, s, top, h - 1, q);
+        lay_row(card, s, b, x.from, &*given, from + x.done, x.n);
     }
+}
+
+// The same into the stream that `t` describes.
+pub fn lay_stream(card: &mut [u8], s: Shape, t: Desc, p: usize, given: &[u8], from: usize, n: usize)
+    requires { Small card.old s × (p < 2 ^ 62) × (n < 2 ^ 62) × (from + n ≤ length given.now) }
+    ensures { card.new ≡ laid card.old s t.top (tall s (data_of s t)) p (take n (drop from given.now)) }
+{
+    lay(card, s, t.top, levels(s, t), p, &*given, from, n);
 }

@@ -3,3 +3,5 @@
 
 pub mod gather;
 pub mod lay;
+mod levels;
+mod parts;

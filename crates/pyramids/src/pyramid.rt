@@ -7,10 +7,7 @@ pub fn up(f: usize, n: usize) -> usize
     requires { 0 < f }
     ensures { (result ≡ up f n) × (result ≤ n) }
 {
-    if n == 0 {
-        return 0;
-    }
-    (n - 1) / f + 1
+    n.div_ceil(f)
 }
 
 // The blocks of level `k` over `d` data blocks.
@@ -19,10 +16,8 @@ pub fn level(f: usize, k: usize, d: usize) -> usize
     ensures { (result ≡ level f k d) × (result ≤ d) }
 {
     let mut n = d;
-    let mut i = 0;
-    while i < k {
+    for _ in 0..k {
         n = up(f, n);
-        i += 1;
     }
     n
 }
@@ -33,10 +28,8 @@ pub fn above(f: usize, k: usize, j: usize) -> usize
     ensures { (result ≡ above f k j) × (result ≤ j) }
 {
     let mut n = j;
-    let mut i = 0;
-    while i < k {
+    for _ in 0..k {
         n /= f;
-        i += 1;
     }
     n
 }
@@ -82,16 +75,14 @@ pub fn find_stem(f: usize, h: usize, d: usize) -> Stem
     requires { (0 < f) × (0 < h) }
     ensures { (result.m ≡ missing f h d) × (result.q ≡ above f (missing f h d) d) × (result.i ≡ above f (missing f h d - 1) d % f) }
 {
-    let mut m = 1;
     let mut i = d % f;
     let mut q = d / f;
-    while m < h {
+    for m in 1..h {
         if i != 0 {
-            return Stem { m: m, q: q, i: i };
+            return Stem { m, q, i };
         }
         i = q % f;
         q /= f;
-        m += 1;
     }
-    Stem { m: m, q: q, i: i }
+    Stem { m: h, q, i }
 }

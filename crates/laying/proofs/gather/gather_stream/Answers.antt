@@ -1,13 +1,16 @@
 -- `laying::gather::gather_stream` keeps its promise.
 use mathlib.Core.Path.{sym, ◌∙◌}
-use Rattle.laying.proofs.Blockwise.{gather_none, gather_done}
+use Rattle.std.proofs.Common.{rules}
+use Rattle.layout.specs.Blocks.{node}
+use Rattle.laying.proofs.Blockwise.{gather_none, gather_done, only_top}
 use Rattle.laying.proofs.gather.gather_stream.Goals as goal
 
 pub returns-then-m-eq0 : goal.returns-then-m-eq0
-returns-then-m-eq0 c = gather_none _ _ _ _ _ _ _ _ _ _ _ _ _ c.least-m.ensures c.least.ensures c.minus.ensures c.minus-2.ensures c.if-m-eq0.true
+returns-then-m-eq0 c = gather_none _ _ _ _ _ _ _ _ _ _ _ _ _ c.min-m.ensures c.min.ensures c.saturating_sub-there.ensures c.saturating_sub-room.ensures c.if-m-eq0.true
 
 pub returns-then-h-eq0 : goal.returns-then-h-eq0
-returns-then-h-eq0 c = gather_done _ _ _ _ _ _ _ _ _ _ _ _ _ c.least-m.ensures c.least.ensures c.minus.ensures c.minus-2.ensures 0 _ (sym c.if-h-eq0.true ∙ c.height-h.ensures.0) c.gather_top.ensures
+returns-then-h-eq0 c = let a = c.args in
+    gather_done _ _ _ _ _ _ _ _ _ _ _ _ _ c.min-m.ensures c.min.ensures c.saturating_sub-there.ensures c.saturating_sub-room.ensures 0 _ (sym c.if-h-eq0.true ∙ c.levels-h.ensures) (c.gather_blocks.ensures (node a.card.now a.s a.t.top 0) (λ k r e. only_top a.card.now a.s a.t.top k (search rules)))
 
 pub returns-else-h-eq0 : goal.returns-else-h-eq0
-returns-else-h-eq0 c = gather_done _ _ _ _ _ _ _ _ _ _ _ _ _ c.least-m.ensures c.least.ensures c.minus.ensures c.minus-2.ensures _ _ c.height-h.ensures.0 c.gather_rows.ensures
+returns-else-h-eq0 c = gather_done _ _ _ _ _ _ _ _ _ _ _ _ _ c.min-m.ensures c.min.ensures c.saturating_sub-there.ensures c.saturating_sub-room.ensures _ _ c.levels-h.ensures c.gather_rows.ensures

@@ -1,42 +1,42 @@
 -- `laying::lay::lay` keeps its promise.
 use mathlib.Core.Path.{refl, ap, ◌∙◌}
-use native.Mathlib.Nat.{mod-lt}
+use Prim.Native.Nat.{◌<◌}
 use native.Mathlib.Omega.{arith}
 use lib.ListN.{length}
 use Rattle.blocks.proofs.Near.{fan_pos, small_same}
-use Rattle.laying.proofs.Blockwise.{row_fits, row_room, row_low}
-use Rattle.laying.proofs.Rowwise.{length-row, lays_turn, rows_done, laid-top, laid-below, laid_begun}
+use Rattle.laying.proofs.Blockwise.{row_pos, row_fits, part_low, part_high, part_end}
+use Rattle.laying.proofs.Rowwise.{length-row, rows_turn, rows_begun, rows_done, laid-top}
 use Rattle.laying.proofs.lay.lay.Goals as goal
 
 pub returns-then-h-eq0 : goal.returns-then-h-eq0
 returns-then-h-eq0 c = c.lay_block.ensures ∙ laid-top _ _ _ _ _ _ c.if-h-eq0.true
 
-pub loop-left-init : goal.loop-left-init
-loop-left-init c = let least = c.requires.0.least in (mod-lt _ (fan_pos _ least), mod-lt _ (omega (arith, least)), refl, refl, refl, omega (arith, row_low c.args.s c.args.p))
+pub loop-q-init : goal.loop-q-init
+loop-q-init c = (refl, rows_begun _ c.args.s (omega (arith, c.requires.0.least)) (fan_pos _ c.requires.0.least) _ _ _ _ _ _ (omega (arith, c.if-h-eq0.false)) c.requires.3)
 
-pub overflow_sub-f : goal.overflow_sub-f
-overflow_sub-f c = omega (arith, c.loop-left.invariant.0)
-
-pub overflow_mul-f : goal.overflow_mul-f
-overflow_mul-f c = omega (arith, row_fits c.args.s c.loop-left.i c.requires.0.most)
-
-pub overflow_sub-f-in-loop-left : goal.overflow_sub-f-in-loop-left
-overflow_sub-f-in-loop-left c = omega (arith, row_room c.args.s c.loop-left.i c.loop-left.r c.loop-left.invariant.0 c.loop-left.invariant.1)
-
-pub node-requires : goal.node-requires
-node-requires c = small_same c.requires.0 c.loop-left.invariant.3
+pub piece_in-x-requires : goal.piece_in-x-requires
+piece_in-x-requires c =
+    let row = row_pos c.args.s c.requires.0.least in
+    (part_low _ _ c.args.n row _ c.loop-q.auto.q, part_high _ _ _ row _ _ c.div_ceil-q-end.ensures c.loop-q-test.true, omega (arith, c.requires.1, c.requires.2))
 
 pub lay_row-requires : goal.lay_row-requires
-lay_row-requires c = (small_same c.requires.0 c.loop-left.invariant.3, c.loop-left.invariant.1, omega (arith, c.loop-left.invariant.0, c.requires.0.most, c.least-m.ensures, row_fits c.args.s c.loop-left.i c.requires.0.most), omega (arith, c.loop-left.invariant.2, c.least-m.ensures, c.requires.3))
+lay_row-requires c =
+    let x = c.piece_in-x.ensures in
+    let row = row_pos c.args.s c.requires.0.least in
+    let low = part_low _ _ c.args.n row _ c.loop-q.auto.q in
+    let high = part_high _ _ _ row _ _ c.div_ceil-q-end.ensures c.loop-q-test.true in
+    (small_same c.requires.0 c.loop-q.invariant.0, omega (arith, x.2, low, x.0, row_fits c.args.s c.requires.0.most), omega (arith, x.1, x.2, high, c.requires.3))
 
-pub overflow_add-q : goal.overflow_add-q
-overflow_add-q c = omega (arith, c.loop-left.invariant.5, c.requires.1, c.requires.2, c.loop-left-test.true)
-
-pub loop-left-smaller : goal.loop-left-smaller
-loop-left-smaller c = omega (arith, c.least-m.ensures, c.loop-left-test.true, row_room c.args.s c.loop-left.i c.loop-left.r c.loop-left.invariant.0 c.loop-left.invariant.1)
-
-pub loop-left-preserved : goal.loop-left-preserved
-loop-left-preserved c = let least = c.requires.0.least in (fan_pos _ least, omega (arith, least), omega (arith, c.loop-left.invariant.2, c.least-m.ensures), ap length c.lay_row.ensures ∙ length-row _ _ _ _ _ _ _ ∙ c.loop-left.invariant.3, lays_turn _ (omega (arith, least)) _ _ _ _ c.loop-left-test.true (omega (arith, c.loop-left.invariant.2, c.requires.3)) _ _ _ _ _ _ _ _ c.loop-left.invariant.0 c.loop-left.invariant.1 c.least-m.ensures c.node.ensures c.lay_row.ensures ∙ c.loop-left.invariant.4, omega (arith, c.loop-left.invariant.5, c.least-m.ensures, c.loop-left-test.true, row_room c.args.s c.loop-left.i c.loop-left.r c.loop-left.invariant.0 c.loop-left.invariant.1))
+pub loop-q-preserved : goal.loop-q-preserved
+loop-q-preserved c =
+    let some : 0 < c.args.s.size = omega (arith, c.requires.0.least) in
+    let row = row_pos c.args.s c.requires.0.least in
+    let x = c.piece_in-x.ensures in (
+      ap length c.lay_row.ensures ∙ length-row _ _ _ _ _ _ _ ∙ c.loop-q.invariant.0,
+      rows_turn c.args.s some row _ _ _ _ _ _ _ _ c.requires.3 (part_low _ _ c.args.n row _ c.loop-q.auto.q) (part_high _ _ _ row _ _ c.div_ceil-q-end.ensures c.loop-q-test.true) x.0 x.1 x.2 _ _ _ _ _ c.node-b.ensures c.lay_row.ensures ∙ c.loop-q.invariant.1,
+    )
 
 pub returns : goal.returns
-returns c = rows_done _ _ _ _ _ _ _ _ _ c.loop-left-test.false ∙ c.loop-left.invariant.4 ∙ laid-below _ _ _ _ _ _ _ (omega (arith, c.if-h-eq0.false)) (laid_begun _ _ _ c.requires.3)
+returns c =
+    let row = row_pos c.args.s c.requires.0.least in
+    rows_done _ _ _ _ _ _ _ _ _ (omega (arith, part_end _ c.args.p c.args.n row _ _ c.div_ceil-q-end.ensures c.loop-q-test.false)) ∙ c.loop-q.invariant.1

@@ -1,26 +1,23 @@
 -- `laying::lay::lay_row` keeps its promise.
 use mathlib.Core.Path.{refl, ap, ◌∙◌}
+use Prim.Native.Nat.{◌<◌}
 use native.Mathlib.Omega.{arith}
 use lib.ListN.{length}
 use Rattle.laws.proofs.ByteLaws.{length_over}
-use Rattle.blocks.proofs.Near.{small_same}
-use Rattle.laying.proofs.Rowwise.{lay-turn, row_done}
+use Rattle.laying.proofs.Blockwise.{part_low, part_high, part_end}
+use Rattle.laying.proofs.Rowwise.{row-turn, row_begun, row_done}
 use Rattle.laying.proofs.lay.lay_row.Goals as goal
 
-pub loop-left-init : goal.loop-left-init
-loop-left-init c = (c.requires.1, omega arith, refl, refl, refl)
+pub loop-k-init : goal.loop-k-init
+loop-k-init c = (refl, row_begun _ _ _ _ _ _ _)
 
-pub overflow_sub-size : goal.overflow_sub-size
-overflow_sub-size c = omega (arith, c.loop-left.invariant.0)
-
-pub slot-requires : goal.slot-requires
-slot-requires c = (small_same c.requires.0 c.loop-left.invariant.3, omega (arith, c.loop-left.invariant.1, c.requires.2, c.loop-left-test.true))
-
-pub lay_block-requires : goal.lay_block-requires
-lay_block-requires c = (small_same c.requires.0 c.loop-left.invariant.3, omega (arith, c.loop-left.invariant.0, c.requires.0.most))
-
-pub loop-left-preserved : goal.loop-left-preserved
-loop-left-preserved c = let size0 = c.requires.0.least in (omega (arith, size0), omega (arith, c.loop-left.invariant.0, c.loop-left.invariant.1, c.least-m.ensures, c.loop-left-test.true), omega (arith, c.loop-left.invariant.2, c.least-m.ensures), ap length c.lay_block.ensures ∙ length_over _ _ _ ∙ c.loop-left.invariant.3, lay-turn _ (omega (arith, size0)) _ _ _ _ c.loop-left-test.true (omega (arith, c.loop-left.invariant.2, c.requires.3)) _ _ _ _ _ _ c.loop-left.invariant.0 c.least-m.ensures c.slot.ensures.0 c.lay_block.ensures ∙ c.loop-left.invariant.4)
+pub loop-k-preserved : goal.loop-k-preserved
+loop-k-preserved c =
+    let some : 0 < c.args.s.size = omega (arith, c.requires.0.least) in
+    let x = c.piece_in-x.ensures in (
+      ap length c.lay_block.ensures ∙ length_over _ _ _ ∙ c.loop-k.invariant.0,
+      row-turn c.args.s some _ _ _ _ _ _ _ _ c.requires.2 (part_low _ _ c.args.n some _ c.loop-k.auto.k) (part_high _ _ _ some _ _ c.div_ceil-k-end.ensures c.loop-k-test.true) x.0 x.1 x.2 _ _ _ _ c.slot-to.ensures.0 c.lay_block.ensures ∙ c.loop-k.invariant.1,
+    )
 
 pub returns : goal.returns
-returns c = row_done _ _ _ _ _ _ _ c.loop-left-test.false ∙ c.loop-left.invariant.4
+returns c = row_done _ _ _ _ _ _ _ (omega (arith, part_end c.args.s.size c.args.p c.args.n (omega (arith, c.requires.0.least)) _ _ c.div_ceil-k-end.ensures c.loop-k-test.false)) ∙ c.loop-k.invariant.1

@@ -1,16 +1,12 @@
 -- `memory::runs::clear` keeps its promise.
-use borrow.Author.Rules.{rules}
-use mathlib.Core.Path.{refl, ◌∙◌}
-use native.Mathlib.Omega.{arith}
-use lib.ListN.{length-set}
-use Rattle.memory.proofs.Turns.{clear_clamp, clear_step, clear_none}
+use Rattle.std.proofs.Common.{◌≡◌, ◌∙◌, ap, arith, replicate, ℕ, ◌+◌, ◌-◌, rules, length-take, length-drop}
+use lib.ListN.{length-replicate}
+use Rattle.memory.proofs.Parts.{over_part, take-zeros}
 use Rattle.memory.proofs.runs.clear.Goals as goal
 
-pub loop-left-init : goal.loop-left-init
-loop-left-init c = (search rules, refl, clear_clamp _ _ _ _ _ c.least-left.ensures c.minus.ensures)
-
-pub loop-left-preserved : goal.loop-left-preserved
-loop-left-preserved c = (simp length-set (omega arith), simp length-set c.loop-left.invariant.1, clear_step _ _ _ c.loop-left-test.true ∙ c.loop-left.invariant.2)
-
 pub returns : goal.returns
-returns c = clear_none _ _ _ c.loop-left-test.false ∙ c.loop-left.invariant.2
+returns c =
+    let m : c.min-from.result + c.min-m.result - c.min-from.result ≡ c.min-m.result = omega arith in
+    over_part c.args.card.now (replicate {A = ℕ} c.args.n 0) _ c.args.at _ _ c.min-from.ensures
+    (simp length-replicate (omega arith))
+    (c.fill.ensures.after (search rules) ∙ ap (λ (k : ℕ). replicate {A = ℕ} k 0) (simp (length-take, length-drop) (omega arith)) ∙ take-zeros c.args.n _ (omega arith))

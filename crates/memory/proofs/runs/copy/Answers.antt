@@ -1,10 +1,10 @@
 -- `memory::runs::copy` keeps its promise.
-use mathlib.Core.Path.{◌∙◌}
-use Rattle.memory.proofs.Turns.{copy_clamp}
+use Rattle.std.proofs.Common.{◌∙◌, arith, take, drop, length-take, length-drop}
+use Rattle.memory.proofs.Parts.{over_part, part_of}
 use Rattle.memory.proofs.runs.copy.Goals as goal
 
-pub returns-then-m-le4096 : goal.returns-then-m-le4096
-returns-then-m-le4096 c = c.copy_page.ensures ∙ copy_clamp _ c.args.src.now _ c.args.from _ _ _ _ _ c.least-m.ensures c.least.ensures c.minus.ensures c.minus-2.ensures
-
 pub returns : goal.returns
-returns c = c.copy_halves.ensures ∙ copy_clamp _ c.args.src.now _ c.args.from _ _ _ _ _ c.least-m.ensures c.least.ensures c.minus.ensures c.minus-2.ensures
+returns c =
+    over_part c.args.dst.now (take c.args.n (drop c.args.from c.args.src.now)) _ c.args.at _ _ c.min-to.ensures
+    (simp (length-take, length-drop) (omega arith))
+    (c.copy_from_slice.ensures.after ∙ part_of c.args.src.now c.args.from _ c.args.n _ _ c.min-start.ensures (omega arith) (omega arith))

@@ -1,10 +1,7 @@
--- `pyramids::pyramid::above` keeps its promise.
-use mathlib.Core.Path.{◌≡◌}
-use Prim.Native.Nat.{◌≤◌, ◌-◌}
+-- `n` is the number in the level that was come to.
+use Rattle.std.proofs.Common.{◌≡◌, ◌≤◌}
+use Rattle.layout.specs.Pyramid.{above}
 use Rattle.pyramids.proofs.pyramid.above.Given as goal
 
-abbrev pub invariant-loop-i : goal.invariant-loop-i
-invariant-loop-i l = (l.i ≤ l.k) × (l.n ≤ l.j) × (l.n ≡ Rattle.layout.specs.Pyramid.above l.f l.i l.j)
-
-abbrev pub decreases-loop-i : goal.decreases-loop-i
-decreases-loop-i l = l.k - l.i
+abbrev pub invariant-loop : goal.invariant-loop
+invariant-loop l = (l.n ≤ l.j) × (l.n ≡ Rattle.layout.specs.Pyramid.above l.f l.counter l.j)

@@ -1,10 +1,7 @@
--- `pyramids::pyramid::level` keeps its promise.
-use mathlib.Core.Path.{◌≡◌}
-use Prim.Native.Nat.{◌≤◌, ◌-◌}
+-- `n` is the level that was come to.
+use Rattle.std.proofs.Common.{◌≡◌, ◌≤◌}
+use Rattle.layout.specs.Pyramid.{level}
 use Rattle.pyramids.proofs.pyramid.level.Given as goal
 
-abbrev pub invariant-loop-i : goal.invariant-loop-i
-invariant-loop-i l = (l.i ≤ l.k) × (l.n ≤ l.d) × (l.n ≡ Rattle.layout.specs.Pyramid.level l.f l.i l.d)
-
-abbrev pub decreases-loop-i : goal.decreases-loop-i
-decreases-loop-i l = l.k - l.i
+abbrev pub invariant-loop : goal.invariant-loop
+invariant-loop l = (l.n ≤ l.d) × (l.n ≡ Rattle.layout.specs.Pyramid.level l.f l.counter l.d)

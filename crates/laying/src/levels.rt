@@ -1,0 +1,14 @@
+// The levels above a stream's data blocks.
+ghost use Rattle.std.specs.Prelude.{◌≡◌, ◌≤◌};
+ghost use Rattle.layout.specs.Streams.{data_of, tall};
+
+use layout::{Desc, Shape};
+use pyramids::pyramid::height;
+
+// How high the pyramid of the stream is that `t` describes.
+pub(crate) fn levels(s: Shape, t: Desc) -> usize
+    requires { 64 ≤ s.size }
+    ensures { result ≡ tall s (data_of s t) }
+{
+    height(s.size / 4, t.reserved / s.size)
+}
