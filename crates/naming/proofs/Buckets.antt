@@ -11,16 +11,17 @@ use lib.ListN.{length, get_or, drop, drop_of_length-le}
 use lib.Seq.{drop-cons}
 use lib.Dec.{leb, eqb, T}
 use borrow.Author.Tests.{eq-eqb, ne_eqb}
-use Rattle.layout.specs.Bytes.{pick, num, same}
+use Rattle.layout.specs.Bytes.{pick, same}
 use Rattle.layout.specs.Filing.{Entry, name_length, entry_at, entries_from, entries, nothing}
 use Rattle.laws.proofs.Tests.{is_same}
-use Rattle.naming.specs.Buckets.{hash_from, bucket_of, name_at, among, last_in, Linked}
+use Rattle.naming.specs.Buckets.{hash_from, bucket_of, name_at, among, last_in, unlinked, Linked}
+use Rattle.naming.specs.declared.apart.Link.{Link}
 
 -- ---- the bucket of a name, byte by byte
 
-pub hash_turn : (name : List ℕ) (h i x b : ℕ) → i < length name → x ≡ get_or name i 0 → b ≡ x → hash_from ((h * 31 + b) % 65536) (drop (i + 1) name) ≡ hash_from h (drop i name)
+pub hash_turn : (name : List ℕ) (h i b : ℕ) → i < length name → b ≡ get_or name i 0 → hash_from ((h * 31 + b) % 65536) (drop (i + 1) name) ≡ hash_from h (drop i name)
 unfolding hash_from
-hash_turn name h i x b l e f = rw (add-one i, drop-cons name i 0 l, f, e)
+hash_turn name h i b l e = rw (add-one i, drop-cons name i 0 l, e)
 
 pub hash_done : (name : List ℕ) (h i : ℕ) → length name ≤ i → hash_from h (drop i name) ≡ hash_from 0 name → h % 1024 ≡ bucket_of name
 unfolding hash_from bucket_of
@@ -63,30 +64,32 @@ module _ (es : List Entry) where
           no false f = refl
 
   -- the entry before place `left`, and those before it in its bucket
-  among-step : (name : List ℕ) (left : ℕ) → 0 < left → among es left name ≡ pick (same (name_at es (left - 1)) name) true (among es (left - 1) name)
-  unfolding among
-  among-step name zero h = elim h [ ]
-  among-step name (suc j) h = let a : suc j - 1 ≡ j = omega arith in rw a
+  module _ (name : List ℕ) (links : List Link) (x left j : ℕ) (r : Bool) (more : left ≡ suc j) (low : left ≤ x) (linked : Linked es x links) (own : left ≢ 0 → bucket_of (name_at es (left - 1)) ≡ bucket_of name)
+      (inv : among es left name ≡ among es x name) (e : r ≡ same (name_at es j) name) where
+    step : among es left name ≡ pick (same (name_at es j) name) true (among es j name)
+    unfolding among
+    step = rw more
 
-  module _ (name links : List ℕ) (x left : ℕ) (r : Bool) (more : 0 < left) (low : left ≤ x) (linked : Linked es x links) (own : left ≢ 0 → bucket_of (name_at es (left - 1)) ≡ bucket_of name)
-      (inv : among es left name ≡ among es x name) (e : r ≡ same (name_at es (left - 1)) name) where
     pub met_here : r ≡ true → true ≡ among es x name
-    met_here t = rw (among-step name left more, ← e, t) at inv
+    met_here t = rw (step, ← e, t) at inv
 
-    module _ (next : ℕ) (f : next ≡ num 4 links (8 * (left - 1) + 4)) where
-      next_is : next ≡ last_in es (bucket_of name) (left - 1)
-      next_is = f ∙ (linked (left - 1) (omega arith)).1 ∙ ap (λ (h : ℕ). last_in es h (left - 1)) (own (λ z. omega arith))
+    module _ (next : ℕ) (f : next ≡ (get_or links j unlinked).before) where
+      next_is : next ≡ last_in es (bucket_of name) j
+      next_is =
+          let z : left - 1 ≡ j = omega arith in
+          let o = own (λ z. omega arith) in
+          f ∙ (linked j (omega arith)).1 ∙ ap (λ (h : ℕ). last_in es h j) (rw z at o)
 
       pub met_less : next < left
-      met_less = omega (arith, next_is, last_le (bucket_of name) (left - 1))
+      met_less = omega (arith, next_is, last_le (bucket_of name) j)
 
       pub met_own : next ≢ 0 → bucket_of (name_at es (next - 1)) ≡ bucket_of name
-      met_own = rw next_is (last_own (bucket_of name) (left - 1))
+      met_own = rw next_is (last_own (bucket_of name) j)
 
       pub met_next : r ≡ false → among es next name ≡ among es x name
       met_next t =
-          let a : among es (left - 1) name ≡ among es x name = rw (among-step name left more, ← e, t) at inv in
-          rw (next_is, among-last name (bucket_of name) (left - 1) refl) a
+          let a : among es j name ≡ among es x name = rw (step, ← e, t) at inv in
+          rw (next_is, among-last name (bucket_of name) j refl) a
 
   pub met_none : (name : List ℕ) (x left : ℕ) → left ≤ 0 → among es left name ≡ among es x name → false ≡ among es x name
   unfolding among
@@ -109,13 +112,13 @@ module _ (r : List ℕ) where
       go false (suc j) h f = f j (omega arith)
 
   -- its name, as it is read there
-  own_name : (links : List ℕ) (x j at : ℕ) → j < x → x ≤ length (entries r) → Linked (entries r) x links → at ≡ num 4 links (8 * j) → (entry_at r at).name ≡ name_at (entries r) j
+  own_name : (links : List Link) (x j at : ℕ) → j < x → x ≤ length (entries r) → Linked (entries r) x links → at ≡ (get_or links j unlinked).at → (entry_at r at).name ≡ name_at (entries r) j
   unfolding entries
   own_name links x j at h l linked e =
       let a : at ≡ (get_or (entries r) j nothing).at = e ∙ (linked j h).0 in
       let b = own_place (length r) 0 j (omega arith) in
       rw a (ap (λ (x : Entry). x.name) (sym b))
 
-  pub met-same : (links name : List ℕ) (x left at : ℕ) (q : Bool) → 0 < left → left ≤ x → x ≤ length (entries r) → Linked (entries r) x links → at ≡ num 4 links (8 * (left - 1))
-      → q ≡ same (entry_at r at).name name → q ≡ same (name_at (entries r) (left - 1)) name
-  met-same links name x left at q more low l linked e g = g ∙ ap (λ (v : List ℕ). same v name) (own_name links x (left - 1) at (omega arith) l linked e)
+  pub met-same : (links : List Link) (name : List ℕ) (x j at : ℕ) (q : Bool) → j < x → x ≤ length (entries r) → Linked (entries r) x links → at ≡ (get_or links j unlinked).at
+      → q ≡ same (entry_at r at).name name → q ≡ same (name_at (entries r) j) name
+  met-same links name x j at q low l linked e g = g ∙ ap (λ (v : List ℕ). same v name) (own_name links x j at low l linked e)

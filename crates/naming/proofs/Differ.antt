@@ -1,24 +1,25 @@
 -- Names that differ from all earlier ones: the definition's test, and the loop over the entries.
 use mathlib.Core.Path.{◌≡◌, refl, sym, ap, ◌∙◌}
-use mathlib.Core.Logic.{◌⊎◌, inl, inr}
-use mathlib.Core.Bool.{Bool, true, false, not}
+use mathlib.Core.Logic.{inl, inr}
+use mathlib.Core.Bool.{Bool, true, false}
 use mathlib.Core.List.{List, [], ◌∷◌, map}
-use Prim.Native.Nat.{ℕ, zero, suc, ◌+◌, ◌-◌, ◌*◌, ◌≤◌, ◌<◌}
+use Prim.Native.Nat.{ℕ, zero, suc, ◌+◌, ◌-◌, ◌≤◌, ◌<◌}
 use native.Mathlib.Decide.{ℕ_discrete}
 use native.Mathlib.Omega.{arith}
 use lib.ListN.{length, drop, replicate, length-drop, length-replicate, get_or-replicate}
 use lib.Dec.{T}
-use Rattle.layout.specs.Bytes.{pick, both, num, same, run, all_b}
+use Rattle.std.specs.Prelude.{Option, Some, None}
+use Rattle.layout.specs.Bytes.{pick, both, same, run, all_b}
 use Rattle.layout.specs.Filing.{Entry, name_length, entries_from, entries, distinct_names}
 use Rattle.laws.proofs.Lists.{In, Distinct, in_run, run_in}
 use Rattle.laws.proofs.Tests.{Is, is_not, is_same}
 use Rattle.laws.proofs.Entries.{is_names}
 use Rattle.filing.proofs.Finding.{entries_stop}
-use Rattle.naming.specs.Buckets.{name_at, among, first_of, last_in, Filed}
+use Rattle.naming.specs.Buckets.{name_at, among, first_of, last_in, unlinked, Filed}
+use Rattle.naming.specs.declared.apart.Link.{Link}
 use Rattle.naming.specs.Rooted.{good_at, tidy_from, Tidy, Here}
 use Rattle.tables.proofs.Every.{is_all_in}
 use Rattle.tables.proofs.Compared.{same_test}
-use Rattle.tables.proofs.Every.{all_stop, all-turn, all_done}
 use Rattle.naming.proofs.Rooted.{tidy_step, here_is, rest-turn}
 
 -- ---- what the tests say
@@ -87,19 +88,14 @@ differ_is es =
 
 -- ---- the loop over the entries
 
-zeros : (m n p : ℕ) → p + n ≤ m → num n (replicate m 0) p ≡ 0
-unfolding num
-zeros m zero p h = refl
-zeros m (suc n) p h = rw (get_or-replicate {A = ℕ} m p 0 0 (omega arith), zeros m n (p + 1) (omega arith))
-
--- pages of zeros: nothing is filed
-pub none_filed : (es : List Entry) → Filed es 0 (replicate 4096 0) (replicate 2048 0)
+-- empty buckets: nothing is filed
+pub none_filed : (es : List Entry) → Filed es 0 (record { last = replicate 1024 0; links = replicate 256 unlinked })
 unfolding last_in
 none_filed es = record {
   linked = λ j h. absurd (omega arith);
-  headed = λ h l. zeros 4096 4 (4 * h) (omega arith);
-  long = length-replicate {A = ℕ} 2048 0;
-  wide = length-replicate {A = ℕ} 4096 0;
+  headed = λ h l. get_or-replicate {A = ℕ} 1024 h 0 0 l;
+  long = length-replicate {A = Link} 256 unlinked;
+  wide = length-replicate {A = ℕ} 1024 0;
 }
 
 module _ (r : List ℕ) where
@@ -119,9 +115,11 @@ module _ (r : List ℕ) where
   rest-start t = record { rest = refl; tidy = t.whole; inside = omega arith; count = omega arith; goes = (let z : length es - 0 ≡ length es = omega arith in rw z (differ_is es)) }
 
   pub rest_end : (size at i : ℕ) → size ≡ length r → size ≤ at → Rest at i → true ≡ distinct_names es
+  unfolding run all_b
   rest_end size at i long h w =
       let l = ap length (w.rest ∙ entries_stop r at (omega arith)) in
-      all_done (first_of es) i (length es - i) (omega (arith, l, length-drop i es)) ∙ w.goes
+      let z : length es - i ≡ 0 = omega (arith, l, length-drop i es) in
+      rw z at w.goes
 
   module _ (size at i : ℕ) (long : size ≡ length r) (h : at < size) (w : Rest at i) (t : Tidy r) where
     both_ways : (good_at r at ≡ true) × (tidy_from r (at + 6 + name_length r at) ≡ true)
@@ -137,28 +135,30 @@ module _ (r : List ℕ) where
     pub rest_here : Here r at i
     rest_here = here_is r at (rw both_ways.0 tt) t i (omega arith) w.rest
 
-    module _ (n : ℕ) (e : n ≡ pick (among es i (name_at es i)) 0 (name_length r at)) where
-      first_is : ((first_of es i ≡ false) × (n ≡ 0)) ⊎ ((first_of es i ≡ true) × (n ≡ name_length r at))
-      first_is = go (among es i (name_at es i)) e
+    step : both (first_of es i) (all_b (first_of es) (run (i + 1) (length es - (i + 1)))) ≡ distinct_names es
+    unfolding run all_b
+    step = let z : length es - i ≡ suc (length es - (i + 1)) = omega (arith, rest_here.inside) in rw z at w.goes
+
+    module _ (x : Option ℕ) (e : x ≡ pick (among es i (name_at es i)) None (Some (name_length r at))) where
+      pub rest-met : x ≡ None → false ≡ distinct_names es
+      rest-met z = let a = met (among es i (name_at es i)) (sym e ∙ z) in rw a at step
         where
-          go : (b : Bool) → n ≡ pick b 0 (name_length r at) → ((not b ≡ false) × (n ≡ 0)) ⊎ ((not b ≡ true) × (n ≡ name_length r at))
-          go true z = inl (refl, z)
-          go false z = inr (refl, z)
+          met : (b : Bool) → pick b None (Some (name_length r at)) ≡ None → b ≡ true
+          met true d = refl
+          met false d = cc
 
-      pub rest-met : n ≡ 0 → false ≡ distinct_names es
-      rest-met z = elim first_is [
-        | inl a ↦ all_stop (first_of es) i (length es - i) _ (omega (arith, rest_here.inside)) refl a.0 ∙ w.goes
-        | inr a ↦ absurd (omega (arith, a.1, rest_here.some))
-      ]
-
-      pub rest-next : (n ≡ 0 → ⊥) → Rest (at + 6 + n) (i + 1)
-      rest-next z = elim first_is [
-        | inl a ↦ absurd (z a.1)
-        | inr a ↦ (let y : length es - (i + 1) ≡ length es - i - 1 = omega arith in rw a.1 (record {
-          rest = rest-turn r i at (omega arith) w.rest;
-          tidy = both_ways.1;
-          inside = rest_here.whole;
-          count = omega (arith, rest_here.inside);
-          goes = rw y (all-turn (first_of es) i (length es - i) _ (omega (arith, rest_here.inside)) refl a.0 ∙ w.goes);
-        }))
-      ]
+      pub rest-next : (n : ℕ) → x ≡ Some n → Rest (at + (6 + n)) (i + 1)
+      rest-next n z =
+          let a = new (among es i (name_at es i)) (sym e ∙ z) in
+          let y : at + (6 + n) ≡ at + 6 + name_length r at = omega (arith, a.1) in
+          rw y (record {
+            rest = rest-turn r i at (omega arith) w.rest;
+            tidy = both_ways.1;
+            inside = rest_here.whole;
+            count = omega (arith, rest_here.inside);
+            goes = rw a.0 at step;
+          })
+        where
+          new : (b : Bool) → pick b None (Some (name_length r at)) ≡ Some n → (b ≡ false) × (n ≡ name_length r at)
+          new true d = cc
+          new false d = (refl, cc)

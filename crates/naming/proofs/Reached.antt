@@ -6,13 +6,14 @@ use Prim.Native.Nat.{ℕ, ◌+◌, ◌-◌, ◌*◌, ◌%◌, ◌^◌, min, ◌�
 use native.Mathlib.Nat.{div-add-mod', mod-lt, mul-le-mul}
 use native.Mathlib.Decide.{dec_le}
 use native.Mathlib.Omega.{arith}
-use lib.ListN.{length, take, drop, set, replicate, length-map}
+use lib.ListN.{length, set, replicate, length-map}
 use lib.Dec.{leb, eqb, T}
+use Rattle.std.specs.Prelude.{Option, Some, None}
 use Rattle.layout.specs.Limits.{most_streams}
 use Rattle.layout.specs.Bytes.{pick, both, num, over, run, those, all_b}
 use Rattle.layout.specs.Pyramid.{up}
 use Rattle.layout.specs.Marks.{fresh, mark_ok, mark_set}
-use Rattle.layout.specs.Streams.{data_of, desc_in, desc_of, live, lives, frees, desc_chain, slots, stream, stream_bytes, table_bytes}
+use Rattle.layout.specs.Streams.{data_of, desc_of, live, lives, frees, desc_chain, slots, stream, stream_bytes, table_bytes}
 use Rattle.layout.specs.Filing.{Entry, name_length, entry_at, entries_from, entries, entries_of, good_name, reads, reads_from, distinct_names, good_directory}
 use Rattle.layout.specs.Sound.{right_desc, live_form, free_form, good_form, same_set, reached, rule4, rule5, rule8}
 use Rattle.layout.specs.Ranges.{Small}
@@ -39,32 +40,15 @@ untrue : (b : Bool) → (T b → ⊥) → b ≡ false
 untrue true f = absurd (f tt)
 untrue false f = refl
 
+is_two : (a b : Bool) → both a b ≡ true → (a ≡ true) × (b ≡ true)
+is_two true b h = (refl, h)
+is_two false b h = absurd (cc)
+
+pub none_of : (b : Bool) → both b false ≡ false
+none_of true = refl
+none_of false = refl
+
 -- ---- the entry in front of a piece
-
-module _ (p : List ℕ) (len : ℕ) (f : len ≡ name_length p 0) (x : Bool) where
-  pub entry-cut : length p < 6 + len → 0 ≡ pick (both (good_at p 0) x) (name_length p 0) 0
-  entry-cut h = rw (leb_no {a = 6 + name_length p 0} {b = length p} (omega arith))
-
-  module _ (k : 6 + len ≤ length p) (q : Bool) (a : q ≡ good_name (take (6 + len - 6) (drop 6 p))) where
-    good_is : q ≡ good_at p 0
-    good_is =
-        let z : 6 + len - 6 ≡ name_length p 0 = omega arith in
-        a ∙ rw (z, leb_yes {a = 6 + name_length p 0} {b = length p} (omega arith))
-
-    pub entry_bad : q ≡ false → 0 ≡ pick (both (good_at p 0) x) (name_length p 0) 0
-    entry_bad z = rw (← good_is, z)
-
-    pub entry-met : q ≡ true → x ≡ false → 0 ≡ pick (both (good_at p 0) x) (name_length p 0) 0
-    entry-met z y = rw (← good_is, z, y)
-
-    pub entry_done : q ≡ true → x ≡ true → len ≡ pick (both (good_at p 0) x) (name_length p 0) 0
-    entry_done z y = rw (← good_is, z, y) f
-
-pub fresh_at : (n : ℕ) (m : List ℕ) (b b' : ℕ) → b ≡ b' → (x : Bool) {y : Bool} → x ≡ fresh n m b → x ≡ y → fresh n m b' ≡ y
-fresh_at n m b b' f x e t = rw (← f, ← e) t
-
-pub mark_then : (n : ℕ) (m m' : List ℕ) (b b' : ℕ) (x : Bool) → x ≡ fresh n m b → x ≡ true → b ≡ b' → m' ≡ pick (fresh n m b) (set m b 1) m → m' ≡ set m b' 1
-mark_then n m m' b b' x e t f g = g ∙ rw (← e, t, f)
 
 -- what is found of the entry in front of a piece holds of the directory
 module _ (r : List ℕ) (at : ℕ) (p : List ℕ) (e : p ≡ piece_at r at) (inside : at ≤ length r) where
@@ -89,8 +73,8 @@ module _ (r : List ℕ) (at : ℕ) (p : List ℕ) (e : p ≡ piece_at r at) (ins
     | no h ↦ untrue (good_at p 0) (λ t. omega (arith, (parts p 0 t).0, n_is, p_long)) ∙ sym (untrue (good_at r at) (λ t. omega (arith, (parts r at t).2, name-long r at t)))
   ]
 
-  pub entry-same : (n : ℕ) (m : List ℕ) (len : ℕ) → len ≡ pick (both (good_at p 0) (fresh n m (num 4 p 0))) (name_length p 0) 0 → len ≡ pick (both (good_at r at) (fresh n m (num 4 r at))) (name_length r at) 0
-  entry-same n m len f = f ∙ (λ j. pick (both (good_same j) (fresh n m (i_is j))) (n_is j) 0)
+  pub entry-same : (n : ℕ) (m : List ℕ) (x : Option ℕ) → x ≡ pick (both (good_at p 0) (fresh n m (num 4 p 0))) (Some (name_length p 0)) None → x ≡ pick (both (good_at r at) (fresh n m (num 4 r at))) (Some (name_length r at)) None
+  entry-same n m x f = f ∙ (λ j. pick (both (good_same j) (fresh n m (i_is j))) (Some (n_is j)) None)
 
   pub entry-marked : (m m' : List ℕ) → m' ≡ set m (num 4 p 0) 1 → m' ≡ set m (num 4 r at) 1
   entry-marked m m' f = f ∙ ap (λ (k : ℕ). set m k 1) i_is
@@ -117,7 +101,7 @@ module _ (r : List ℕ) (n : ℕ) (m₀ : List ℕ) where
         let t : tidy_from r at ≡ true = rw z (tidy_stop r) in
         (rw (s, t) at w.ok, rw s at w.marks)
 
-    module _ (size : ℕ) (long : size ≡ length r) (h : at < size) (len : ℕ) (e : len ≡ pick (both (good_at r at) (fresh n m (num 4 r at))) (name_length r at) 0) where
+    module _ (size : ℕ) (long : size ≡ length r) (h : at < size) (x : Option ℕ) (e : x ≡ pick (both (good_at r at) (fresh n m (num 4 r at))) (Some (name_length r at)) None) where
       abbrev next : ℕ
       next = at + 6 + name_length r at
 
@@ -129,30 +113,33 @@ module _ (r : List ℕ) (n : ℕ) (m₀ : List ℕ) where
       unfolding mark_set
       opened_set = rw (entries-step r at (omega arith)) at w.marks
 
-      pub left_stop : len ≡ 0 → false ≡ both (tidy_from r 0) (mark_ok n m₀ (indices (entries r)))
-      left_stop z = go (good_at r at) (fresh n m (num 4 r at)) e (λ t. omega (arith, (parts r at t).1, name-long r at t)) opened
+      pub left_stop : x ≡ None → false ≡ both (tidy_from r 0) (mark_ok n m₀ (indices (entries r)))
+      left_stop z = go (good_at r at) (fresh n m (num 4 r at)) (sym e ∙ z) opened
         where
-          go : (g f : Bool) → len ≡ pick (both g f) (name_length r at) 0 → (T g → 1 ≤ name_length r at)
+          go : (g f : Bool) → pick (both g f) (Some (name_length r at)) None ≡ None
               → both (both g (tidy_from r next)) (pick f (mark_ok n (set m (num 4 r at) 1) (indices (entries_from (length r) r next))) false) ≡ both (tidy_from r 0) (mark_ok n m₀ (indices (entries r)))
               → false ≡ both (tidy_from r 0) (mark_ok n m₀ (indices (entries r)))
-          go true true a b o = absurd (omega (arith, b tt))
-          go true false a b o = by (tidy_from r next) o
+          go true true a o = cc
+          go true false a o = by (tidy_from r next) o
             where
               by : (t : Bool) → both t false ≡ both (tidy_from r 0) (mark_ok n m₀ (indices (entries r))) → false ≡ both (tidy_from r 0) (mark_ok n m₀ (indices (entries r)))
               by true o = o
               by false o = o
-          go false f a b o = o
+          go false f a o = o
 
-      pub left_turn : (m' : List ℕ) → (len ≡ 0 → ⊥) → m' ≡ set m (num 4 r at) 1 → Left m' (at + 6 + len)
-      left_turn m' z g = go (good_at r at) (fresh n m (num 4 r at)) e (λ t. (parts r at t).0) opened opened_set
+      pub left_turn : (len : ℕ) (m' : List ℕ) → x ≡ Some len → m' ≡ set m (num 4 r at) 1 → Left m' (at + (6 + len))
+      left_turn len m' z g = go (good_at r at) (fresh n m (num 4 r at)) (sym e ∙ z) (λ t. (parts r at t).0) opened opened_set
         where
-          go : (a f : Bool) → len ≡ pick (both a f) (name_length r at) 0 → (T a → next ≤ length r)
+          go : (a f : Bool) → pick (both a f) (Some (name_length r at)) None ≡ Some len → (T a → next ≤ length r)
               → both (both a (tidy_from r next)) (pick f (mark_ok n (set m (num 4 r at) 1) (indices (entries_from (length r) r next))) false) ≡ both (tidy_from r 0) (mark_ok n m₀ (indices (entries r)))
               → pick f (mark_set n (set m (num 4 r at) 1) (indices (entries_from (length r) r next))) m ≡ mark_set n m₀ (indices (entries r))
-              → Left m' (at + 6 + len)
-          go true true a b o p = rw (a, g) (record { inside = b tt; ok = o; marks = p })
-          go true false a b o p = absurd (z a)
-          go false f a b o p = absurd (z a)
+              → Left m' (at + (6 + len))
+          go true true a b o p =
+              let l : name_length r at ≡ len = cc in
+              let y : at + (6 + len) ≡ next = omega (arith, l) in
+              rw (y, g) (record { inside = b tt; ok = o; marks = p })
+          go true false a b o p = absurd (cc)
+          go false f a b o p = absurd (cc)
 
 pub not_both : {A : Type 0} → false ≡ true → A
 not_both z = let a : ◌≡◌ {A = ℕ} 0 1 = ap (λ (b : Bool). pick b 1 0) z in absurd (omega arith)
@@ -202,7 +189,7 @@ map_same : (xs : List ℕ) → map (λ (x : ℕ). x) xs ≡ xs
 map_same [] = refl
 map_same (x ∷ xs) = ap (λ (l : List ℕ). x ∷ l) (map_same xs)
 
-module _ (c : List ℕ) (s : Shape) (tab : List ℕ) (n : ℕ) (t : Desc) (four : rule4 c s ≡ true) (many : n ≡ slots (table_bytes c s)) (same : Reads tab (table_bytes c s)) (at : t ≡ desc_in tab 8) where
+module _ (c : List ℕ) (s : Shape) (tab : List ℕ) (n : ℕ) (t : Desc) (four : rule4 c s ≡ true) (many : n ≡ slots (table_bytes c s)) (same : Reads tab (table_bytes c s)) (at : t ≡ desc_of tab 0) where
   root_is : t ≡ stream c s 0
   unfolding stream desc_of
   root_is = at ∙ desc_same tab (table_bytes c s) same 0
@@ -227,7 +214,8 @@ module _ (c : List ℕ) (s : Shape) (tab : List ℕ) (n : ℕ) (t : Desc) (four 
   unfolding rule8 reached entries_of lives
   rule_is = rw (tidy_reads (bytes_of c s t), bytes_are, live_same tab (table_bytes c s) same, many)
 
-  module _ (m m₁ m₂ : List ℕ) (long : most_streams ≤ length m) (a : m₁ ≡ over m 0 (replicate n 0)) (q : Bool) (e : q ≡ fresh n m₁ 0) (f : m₂ ≡ pick (fresh n m₁ 0) (set m₁ 0 1) m₁) where
+  -- test by test, on cleared marks
+  module _ (m m₁ : List ℕ) (long : most_streams ≤ length m) (a : m₁ ≡ over m 0 (replicate n 0)) where
     zero-first : both (mark_ok n m₁ (0 ∷ ks)) (all_b (right_mark (mark_set n m₁ (0 ∷ ks)) (live tab)) (run 0 n)) ≡ same_set (0 ∷ ks) (those (live tab) (run 0 n))
     zero-first =
         let few = slots-few c s n four many in
@@ -235,67 +223,14 @@ module _ (c : List ℕ) (s : Shape) (tab : List ℕ) (n : ℕ) (t : Desc) (four 
         let id : ℕ → ℕ = λ x. x in
         rw (map_same (0 ∷ ks), map_same (those (live tab) (run 0 n))) at (compared n m₁ y.0 y.1 (live tab) id id (λ k l. refl) (λ x l. refl) (0 ∷ ks))
 
-    pub zero-met : q ≡ false → false ≡ rule8 c s
-    unfolding mark_ok
-    zero-met z = let g : fresh n m₁ 0 ≡ false = sym e ∙ z in rw (← rule_is, ← zero-first, g) (sym (none (both (tidy_from (bytes_of c s t) 0) (distinct_names es))))
-      where
-        none : (b : Bool) → both b false ≡ false
-        none true = refl
-        none false = refl
+    pub rule8_is : both (both (tidy_from (bytes_of c s t) 0) (distinct_names es)) (both (mark_ok n m₁ (0 ∷ ks)) (all_b (right_mark (mark_set n m₁ (0 ∷ ks)) (asked tab true)) (run 0 n))) ≡ rule8 c s
+    rule8_is = rw zero-first rule_is
 
-    module _ (z : q ≡ true) (p : Bool) (m₃ : List ℕ) (g : p ≡ both (tidy_from (bytes_of c s t) 0) (mark_ok n m₂ ks)) (g' : p ≡ true → m₃ ≡ mark_set n m₂ ks) where
-      fresh_is : fresh n m₁ 0 ≡ true
-      fresh_is = sym e ∙ z
-
-      m₂_is : m₂ ≡ set m₁ 0 1
-      m₂_is = f ∙ rw fresh_is
-
-      marks_are : (mark_ok n m₁ (0 ∷ ks) ≡ mark_ok n m₂ ks) × (mark_set n m₁ (0 ∷ ks) ≡ mark_set n m₂ ks)
-      unfolding mark_ok mark_set
-      marks_are = (rw (fresh_is, m₂_is), rw (fresh_is, m₂_is))
-
-      eight_is : both (both (tidy_from (bytes_of c s t) 0) (distinct_names es)) (both (mark_ok n m₂ ks) (all_b (right_mark (mark_set n m₂ ks) (live tab)) (run 0 n))) ≡ rule8 c s
-      eight_is = rw (← marks_are.0, ← marks_are.1, zero-first) rule_is
-
-      pub entries_wrong : p ≡ false → false ≡ rule8 c s
-      entries_wrong y = go (tidy_from (bytes_of c s t) 0) (mark_ok n m₂ ks) (distinct_names es) (all_b (right_mark (mark_set n m₂ ks) (live tab)) (run 0 n)) (sym g ∙ y) ∙ eight_is
-        where
-          go : (a b d r : Bool) → both a b ≡ false → false ≡ both (both a d) (both b r)
-          go true true d r h = cc
-          go true false true r h = refl
-          go true false false r h = refl
-          go false b d r h = refl
-
-      module _ (y : p ≡ true) where
-        two : (tidy_from (bytes_of c s t) 0 ≡ true) × (mark_ok n m₂ ks ≡ true)
-        two = go (tidy_from (bytes_of c s t) 0) (mark_ok n m₂ ks) (sym g ∙ y)
-          where
-            go : (a b : Bool) → both a b ≡ true → (a ≡ true) × (b ≡ true)
-            go true b h = (refl, h)
-            go false b h = not_both h
-
-        pub root_tidy : length (bytes_of c s t) < 2 ^ 32 → Tidy (bytes_of c s t)
-        root_tidy low =
-            let few = slots-few c s n four many in
-            let y = cleared m m₁ n (omega (arith, few.1)) a in
-            let w = (is_separate n (0 ∷ ks)).out (rw (← mark-separate n m₁ y.0 y.1 (0 ∷ ks), marks_are.0, two.1) tt) in
-            let l = distinct_le (0 ∷ ks) (run 0 n) w.1 (λ x i. in_run 0 n x (omega arith) (omega (arith, w.0 x i))) in
-            record { whole = two.0; few = omega (arith, length_run 0 n, length-map es (λ (x : Entry). x.index), few.1); low = low }
-
-        module _ (v : Bool) (h : v ≡ all_b (right_mark m₃ (asked tab true)) (run 0 n)) where
-          right_is : both (distinct_names es) v ≡ rule8 c s
-          right_is = rw (h, g' y) (rw (two.0, two.1) at eight_is)
-
-          pub marks_wrong : v ≡ false → false ≡ rule8 c s
-          marks_wrong u = none (distinct_names es) (rw u at right_is)
-            where
-              none : (b : Bool) → both b false ≡ rule8 c s → false ≡ rule8 c s
-              none true k = k
-              none false k = k
-
-          pub names_last : v ≡ true → (d : Bool) → d ≡ distinct_names es → d ≡ rule8 c s
-          names_last u d k = k ∙ sym (one (distinct_names es)) ∙ rw u at right_is
-            where
-              one : (b : Bool) → both b true ≡ b
-              one true = refl
-              one false = refl
+    pub root_tidy : both (tidy_from (bytes_of c s t) 0) (mark_ok n m₁ (0 ∷ ks)) ≡ true → length (bytes_of c s t) < 2 ^ 32 → Tidy (bytes_of c s t)
+    root_tidy h low =
+        let two = is_two (tidy_from (bytes_of c s t) 0) (mark_ok n m₁ (0 ∷ ks)) h in
+        let few = slots-few c s n four many in
+        let y = cleared m m₁ n (omega (arith, few.1)) a in
+        let w = (is_separate n (0 ∷ ks)).out (rw (← mark-separate n m₁ y.0 y.1 (0 ∷ ks), two.1) tt) in
+        let l = distinct_le (0 ∷ ks) (run 0 n) w.1 (λ x i. in_run 0 n x (omega arith) (omega (arith, w.0 x i))) in
+        record { whole = two.0; few = omega (arith, length_run 0 n, length-map es (λ (x : Entry). x.index), few.1); low = low }

@@ -1,7 +1,9 @@
 -- Names in buckets: each is compared only with the earlier ones of its own bucket.
 use Rattle.std.specs.Prelude.{◌≡◌, Bool, true, false, not, ℕ, zero, suc, ◌+◌, ◌*◌, ◌%◌, ◌<◌, List, [], ◌∷◌, length, get_or, eqb}
-use Rattle.layout.specs.Bytes.{pick, num, same}
+use Rattle.layout.specs.Bytes.{pick, same}
 use Rattle.layout.specs.Filing.{Entry, nothing}
+use Rattle.naming.specs.declared.apart.Link.{Link}
+use Rattle.naming.specs.declared.apart.Buckets.{Buckets}
 
 -- ---- the bucket of a name
 
@@ -31,17 +33,21 @@ unfoldable pub last_in : List Entry → ℕ → ℕ → ℕ
 last_in es h zero = 0
 last_in es h (suc i) = pick (eqb (bucket_of (name_at es i)) h) (suc i) (last_in es h i)
 
--- ---- on pages: 8 bytes an entry, its place and the entry before it in its bucket; 4 bytes a bucket, its last entry
+-- ---- each bucket's last entry, and the entry before each in its bucket; they count from 1
 
-abbrev pub Linked : List Entry → ℕ → List ℕ → Type 0
-Linked es i links = (j : ℕ) → j < i → (num 4 links (8 * j) ≡ (get_or es j nothing).at) × (num 4 links (8 * j + 4) ≡ last_in es (bucket_of (name_at es j)) j)
+-- what stands where there is no link
+abbrev pub unlinked : Link
+unlinked = record { at = 0; before = 0 }
+
+abbrev pub Linked : List Entry → ℕ → List Link → Type 0
+Linked es i links = (j : ℕ) → j < i → ((get_or links j unlinked).at ≡ (get_or es j nothing).at) × ((get_or links j unlinked).before ≡ last_in es (bucket_of (name_at es j)) j)
 
 abbrev pub Headed : List Entry → ℕ → List ℕ → Type 0
-Headed es i heads = (h : ℕ) → h < 1024 → num 4 heads (4 * h) ≡ last_in es h i
+Headed es i last = (h : ℕ) → h < 1024 → get_or last h 0 ≡ last_in es h i
 
 -- the first i entries are in their buckets
-pub record Filed (es : List Entry) (i : ℕ) (heads links : List ℕ) : Type 0 where
-  pub linked : Linked es i links
-  pub headed : Headed es i heads
-  pub long : length links ≡ 2048
-  pub wide : length heads ≡ 4096
+pub record Filed (es : List Entry) (i : ℕ) (b : Buckets) : Type 0 where
+  pub linked : Linked es i b.links
+  pub headed : Headed es i b.last
+  pub long : length b.links ≡ 256
+  pub wide : length b.last ≡ 1024

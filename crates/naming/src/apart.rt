@@ -7,99 +7,125 @@ ghost use Rattle.filing.specs.Paged.{piece_at};
 ghost use Rattle.naming.specs.Buckets.{bucket_of, name_at, among, Linked, Filed};
 ghost use Rattle.naming.specs.Rooted.{bytes_of, Tidy, Here};
 
+use filing::entries::read_head;
 use filing::pages::{PAGE, PIECE, name_at, turn};
 use layout::{Desc, Shape};
-use memory::bytes::{number, put_number};
-use memory::numbers::{least, wide};
+
+// The buckets, and the numbers that mix a name's bytes into one.
+const BUCKETS: usize = 1024;
+
+const FACTOR: usize = 31;
+
+const MIXED: usize = 65536;
+
+// The most entries that a directory has.
+const ENTRIES: usize = 256;
+
+// The bytes of an entry before its name.
+pub const HEAD: usize = 6;
+
+// No entry, where entries count from 1.
+const NONE: u16 = 0;
+
+// An entry in its bucket: where it starts, and the entry before it there.
+#[derive(Clone, Copy)]
+struct Link {
+    at: u32,
+    before: u16,
+}
+
+// Entries in their buckets: each bucket's last one, and from each entry the one before.
+#[derive(Drop)]
+struct Buckets {
+    last: [u16; BUCKETS],
+    links: [Link; ENTRIES],
+}
 
 // The bucket of a name.
 fn bucket(name: &[u8]) -> usize
     ensures { (result ≡ bucket_of name.now) × (result < 1024) }
 {
     let mut h = 0;
-    let mut i = 0;
-    while i < name.len() {
-        h = (h * 31 + wide(name[i])) % 65536;
-        i += 1;
+    for b in name {
+        h = (h * FACTOR + usize::from(*b)) % MIXED;
     }
-    h % 1024
+    h % BUCKETS
 }
 
-// Whether one of the first `x` entries has that name, where the last of them is in its bucket.
-fn met(card: &[u8], s: Shape, t: Desc, links: &[u8], x: usize, name: &[u8]) -> bool
-    requires { Small card.now s × (length name.now ≤ 64) × (x ≤ 65536) × (x ≤ length (entries (bytes_of card.now s t))) × Linked (entries (bytes_of card.now s t)) x links.now × (x ≢ 0 → bucket_of (name_at (entries (bytes_of card.now s t)) (x - 1)) ≡ bucket_of name.now) }
-    ensures { result ≡ among (entries (bytes_of card.now s t)) x name.now }
-{
-    let mut left = x;
-    while 0 < left {
-        let j = left - 1;
-        let at = number(&*links, 8 * j, 4);
-        if name_at(&*card, s, t, at, &*name) {
-            return true;
+impl Buckets {
+    // Whether one of the first `x` entries has that name, where the last of them is in its bucket.
+    fn met(&self, card: &[u8], s: Shape, t: Desc, x: u16, name: &[u8]) -> bool
+        requires { Small card.now s × (length name.now ≤ 64) × (x ≤ 256) × (x ≤ length (entries (bytes_of card.now s t))) × (length self.now.links ≡ 256) × Linked (entries (bytes_of card.now s t)) x self.now.links × (x ≢ 0 → bucket_of (name_at (entries (bytes_of card.now s t)) (x - 1)) ≡ bucket_of name.now) }
+        ensures { result ≡ among (entries (bytes_of card.now s t)) x name.now }
+    {
+        let mut left = x;
+        while left != NONE {
+            let link = self.links[usize::from(left - 1)];
+            if name_at(card, s, t, link.at as usize, name) {
+                return true;
+            }
+            left = link.before;
         }
-        left = number(&*links, 8 * j + 4, 4);
+        false
     }
-    false
-}
 
-// Files entry `i`, which is at `at` and in front of `piece`, in its bucket and gives its name's length; 0 where an earlier
-// entry has its name.
-fn file_entry(
-    card: &[u8],
-    s: Shape,
-    t: Desc,
-    piece: &[u8],
-    at: usize,
-    i: usize,
-    heads: &mut [u8],
-    links: &mut [u8],
-) -> usize
-    requires { Small card.now s × Here (bytes_of card.now s t) at i × (piece.now ≡ piece_at (bytes_of card.now s t) at) × Filed (entries (bytes_of card.now s t)) i heads.old links.old }
-    ensures { (result ≡ pick (among (entries (bytes_of card.now s t)) i (name_at (entries (bytes_of card.now s t)) i)) 0 (name_length (bytes_of card.now s t) at)) × (result ≢ 0 → Filed (entries (bytes_of card.now s t)) (i + 1) heads.new links.new) }
-{
-    let n = number(&*piece, 4, 2);
-    let e = 6 + n;
-    let h = bucket(&piece[6..e]);
-    let x = number(&*heads, 4 * h, 4);
-    if met(&*card, s, t, &*links, x, &piece[6..e]) {
-        return 0;
-    }
-    put_number(links, 8 * i, 4, at);
-    put_number(links, 8 * i + 4, 4, x);
-    put_number(heads, 4 * h, 4, i + 1);
-    n
-}
-
-// Files the entries one after the other, up to the first whose name was met.
-fn file_entries(card: &[u8], s: Shape, t: Desc, heads: &mut [u8], links: &mut [u8]) -> bool
-    requires { Small card.now s × Tidy (bytes_of card.now s t) × Filed (entries (bytes_of card.now s t)) 0 heads.old links.old }
-    ensures { result ≡ distinct_names (entries (bytes_of card.now s t)) }
-{
-    let size = t.size;
-    let mut page = [0; PAGE];
-    let mut from = size;
-    let mut at = 0;
-    let mut i = 0;
-    while at < size {
-        from = turn(&*card, s, t, &mut page, from, at);
-        let o = at - from;
-        let e = o + least(PIECE, size - at);
-        let n = file_entry(&*card, s, t, &page[o..e], at, i, heads, links);
-        if n == 0 {
-            return false;
+    // Files entry `i`, which is at `at` and in front of `piece`, in its bucket and gives its name's length; none where an earlier
+    // entry has its name.
+    fn file(
+        &mut self,
+        card: &[u8],
+        s: Shape,
+        t: Desc,
+        piece: &[u8],
+        at: usize,
+        i: usize,
+    ) -> Option<usize>
+        requires { Small card.now s × Here (bytes_of card.now s t) at i × (piece.now ≡ piece_at (bytes_of card.now s t) at) × Filed (entries (bytes_of card.now s t)) i self.old }
+        ensures { (result ≡ pick (among (entries (bytes_of card.now s t)) i (name_at (entries (bytes_of card.now s t)) i)) None (Some (name_length (bytes_of card.now s t) at))) × (result ≢ None → Filed (entries (bytes_of card.now s t)) (i + 1) self.new) }
+    {
+        let n = read_head(piece).length;
+        let name = &piece[HEAD..HEAD + n];
+        let h = bucket(name);
+        let before = self.last[h];
+        if self.met(card, s, t, before, name) {
+            return None;
         }
-        at = at + 6 + n;
-        i += 1;
+        self.links[i] = Link {
+            at: at as u32,
+            before,
+        };
+        self.last[h] = (i + 1) as u16;
+        Some(n)
     }
-    true
 }
 
-// Whether no name stands twice in the directory that `t` describes.
+// Whether no name stands twice in the directory that `t` describes: its entries are filed one after the other, up to the
+// first whose name was met.
 pub fn names_apart(card: &[u8], s: Shape, t: Desc) -> bool
     requires { Small card.now s × Tidy (bytes_of card.now s t) }
     ensures { result ≡ distinct_names (entries (bytes_of card.now s t)) }
 {
-    let mut heads = [0; 4096];
-    let mut links = [0; 2048];
-    file_entries(card, s, t, &mut heads, &mut links)
+    let none = Link {
+        at: 0,
+        before: NONE,
+    };
+    let mut buckets = Buckets {
+        last: [NONE; BUCKETS],
+        links: [none; ENTRIES],
+    };
+    let mut page = [0; PAGE];
+    let mut from = t.size;
+    let mut at = 0;
+    let mut i = 0;
+    while at < t.size {
+        from = turn(card, s, t, &mut page, from, at);
+        let o = at - from;
+        let e = o + PIECE.min(t.size - at);
+        let Some(n) = buckets.file(card, s, t, &page[o..e], at, i) else {
+            return false;
+        };
+        at += HEAD + n;
+        i += 1;
+    }
+    true
 }

@@ -1,7 +1,7 @@
 // Rule 8: the root's entries, their names, and the streams that they lead to.
-ghost use Rattle.std.specs.Prelude.{◌≡◌, ◌≢◌, true, ◌^◌, ◌<◌, ◌≤◌, length, set};
+ghost use Rattle.std.specs.Prelude.{◌≡◌, ◌≢◌, true, ◌^◌, ◌<◌, ◌≤◌, ◌∷◌, length, replicate, set};
 ghost use Rattle.layout.specs.Limits.{most_streams};
-ghost use Rattle.layout.specs.Bytes.{pick, both, num};
+ghost use Rattle.layout.specs.Bytes.{pick, both, num, over};
 ghost use Rattle.layout.specs.Marks.{fresh, mark_ok, mark_set};
 ghost use Rattle.layout.specs.Streams.{table_bytes};
 ghost use Rattle.layout.specs.Filing.{name_length, entries};
@@ -10,34 +10,28 @@ ghost use Rattle.layout.specs.Ranges.{Small};
 ghost use Rattle.tables.specs.OnPage.{Reads};
 ghost use Rattle.naming.specs.Rooted.{bytes_of, good_at, tidy_from, indices};
 
-use crate::apart::names_apart;
+use crate::apart::{HEAD, names_apart};
 use filing::entries::read_head;
 use filing::names::good_name;
 use filing::pages::{PAGE, PIECE, turn};
 use layout::{Desc, Shape};
 use marking::marks::mark;
-use memory::numbers::least;
 use memory::runs::clear;
-use stream::descs::{descriptor, descriptors};
+use stream::descs::descriptors;
+use tables::forms::descriptor_at;
 use tables::spare::right_marks;
 
-// Marks the stream that the entry in front of `piece` leads to and gives its name's length; 0 where the entry is cut off, its
-// name is not good, or its stream is out of range or marked.
-fn mark_entry(piece: &[u8], n: usize, marks: &mut [u8]) -> usize
-    ensures { (result ≡ pick (both (good_at piece.now 0) (fresh n marks.old (num 4 piece.now 0))) (name_length piece.now 0) 0) × (result ≢ 0 → marks.new ≡ set marks.old (num 4 piece.now 0) 1) }
+// Marks the stream that the entry in front of `piece` leads to and gives its name's length; none where the entry is cut off,
+// its name is not good, or its stream is out of range or marked.
+fn mark_entry(piece: &[u8], n: usize, marks: &mut [u8]) -> Option<usize>
+    ensures { (result ≡ pick (both (good_at piece.now 0) (fresh n marks.old (num 4 piece.now 0))) (Some (name_length piece.now 0)) None) × (result ≢ None → marks.new ≡ set marks.old (num 4 piece.now 0) 1) }
 {
-    let h = read_head(&*piece);
-    let e = 6 + h.length;
-    if piece.len() < e {
-        return 0;
+    let head = read_head(piece);
+    let name = piece.get(HEAD..HEAD + head.length)?;
+    if !good_name(name) || !mark(marks, n, head.index) {
+        return None;
     }
-    if !good_name(&piece[6..e]) {
-        return 0;
-    }
-    if !mark(marks, n, h.index) {
-        return 0;
-    }
-    h.length
+    Some(head.length)
 }
 
 // Marks the streams that the entries lead to, up to the first entry that is not in order.
@@ -45,21 +39,29 @@ fn mark_entries(card: &[u8], s: Shape, t: Desc, n: usize, marks: &mut [u8]) -> b
     requires { Small card.now s × (t.size < 2 ^ 32) }
     ensures { (result ≡ both (tidy_from (bytes_of card.now s t) 0) (mark_ok n marks.old (indices (entries (bytes_of card.now s t))))) × (result ≡ true → marks.new ≡ mark_set n marks.old (indices (entries (bytes_of card.now s t)))) }
 {
-    let size = t.size;
     let mut page = [0; PAGE];
-    let mut from = size;
+    let mut from = t.size;
     let mut at = 0;
-    while at < size {
-        from = turn(&*card, s, t, &mut page, from, at);
+    while at < t.size {
+        from = turn(card, s, t, &mut page, from, at);
         let o = at - from;
-        let e = o + least(PIECE, size - at);
-        let len = mark_entry(&page[o..e], n, marks);
-        if len == 0 {
+        let e = o + PIECE.min(t.size - at);
+        let Some(length) = mark_entry(&page[o..e], n, marks) else {
             return false;
-        }
-        at = at + 6 + len;
+        };
+        at += HEAD + length;
     }
     true
+}
+
+// Clears the marks and marks the streams that the root leads to, itself the first, up to the first entry that is not in order.
+#[tactic(auto, using(crate::proofs::Reached::none_of), unfolding(layout::specs::Marks::mark_ok, layout::specs::Marks::mark_set))]
+fn mark_root(card: &[u8], s: Shape, t: Desc, n: usize, marks: &mut [u8]) -> bool
+    requires { Small card.now s × (t.size < 2 ^ 32) }
+    ensures { (result ≡ both (tidy_from (bytes_of card.now s t) 0) (mark_ok n (over marks.old 0 (replicate n 0)) (0 ∷ indices (entries (bytes_of card.now s t))))) × (result ≡ true → marks.new ≡ mark_set n (over marks.old 0 (replicate n 0)) (0 ∷ indices (entries (bytes_of card.now s t)))) }
+{
+    clear(marks, 0, n);
+    mark(marks, n, 0) && mark_entries(card, s, t, n, marks)
 }
 
 // Rule 8: entry by entry to the very end, names good and not twice, and the streams that the root leads to, itself the first,
@@ -68,17 +70,7 @@ pub fn rule8(card: &[u8], s: Shape, tab: &[u8], marks: &mut [u8]) -> bool
     requires { Small card.now s × (rule4 card.now s ≡ true) × (rule5 card.now s ≡ true) × Reads tab.now (table_bytes card.now s) × (most_streams ≤ length marks.old) }
     ensures { result ≡ rule8 card.now s }
 {
-    let n = descriptors(&*card, s);
-    let t = descriptor(&*tab, 8);
-    clear(marks, 0, n);
-    if !mark(marks, n, 0) {
-        return false;
-    }
-    if !mark_entries(&*card, s, t, n, marks) {
-        return false;
-    }
-    if !right_marks(&*tab, true, n, &*marks) {
-        return false;
-    }
-    names_apart(&*card, s, t)
+    let n = descriptors(card, s);
+    let t = descriptor_at(tab, 0);
+    mark_root(card, s, t, n, marks) && right_marks(tab, true, n, marks) && names_apart(card, s, t)
 }

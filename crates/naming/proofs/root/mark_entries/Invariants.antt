@@ -8,7 +8,11 @@ use Rattle.naming.proofs.Reached.{Left}
 use Rattle.naming.proofs.root.mark_entries.Given as goal
 
 abbrev pub invariant-loop-at : goal.invariant-loop-at
-invariant-loop-at l = (length l.marks ≡ length l.initial.marks) × Paged l.page l.from (bytes_of l.card l.s l.t) × (l.size ≡ length (bytes_of l.card l.s l.t)) × Left (bytes_of l.card l.s l.t) l.n l.initial.marks l.marks l.at
+invariant-loop-at l = record {
+  paged : Paged l.page l.from (bytes_of l.card l.s l.t);
+  size : l.t.size ≡ length (bytes_of l.card l.s l.t);
+  left : Left (bytes_of l.card l.s l.t) l.n l.initial.marks l.marks l.at;
+}
 
 abbrev pub decreases-loop-at : goal.decreases-loop-at
-decreases-loop-at l = l.size - l.at
+decreases-loop-at l = l.t.size - l.at
