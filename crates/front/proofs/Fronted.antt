@@ -3,6 +3,7 @@ use mathlib.Core.Path.{◌≡◌, refl, sym, subst, ◌∙◌}
 use mathlib.Core.Bool.{Bool, true, false}
 use mathlib.Core.List.{List, ◌∷◌}
 use Rattle.std.specs.Prelude.{Option, Some, None, Result, Ok, Err}
+use Rattle.std.specs.Option.{ok_or}
 use Prim.Native.Nat.{ℕ}
 use native.Mathlib.Nat.{zero-add}
 use lib.ListN.{length}
@@ -87,6 +88,11 @@ module _ (c name : List ℕ) (s : Shape) (p : Passed c s) (q : Bool) (f : q ≡ 
       let there : o ≡ found_of c name = w ∙ rw (p.cut, located_is (root_of c) name 0, zero-add (look_in (root_of c) name)) in
       rw (p.unbroken, ← f, g, there, p.cut)
 
+-- where there is nothing, `ok_or` gives its error
+pub lost : {A E : Type 0} (o : Option A) (e x : E) → Err x ≡ ok_or o e → (o ≡ None) × (x ≡ e)
+lost None e x h = (refl, cc)
+lost (Some y) e x h = absurd (cc)
+
 -- what a name's place says of it
 abbrev Places : List ℕ → List ℕ → Shape → Option Found → Type 0
 Places c name s (Some f) = Named c name s f.index f.at
@@ -123,6 +129,9 @@ module _ (c name : List ℕ) where
 
     pub refused_unknown : {x : Sought} → Ok x ≡ sought_of c name → x.found ≡ None → refused 3 0 c t ≡ unless (damaged c ∷ bad_name name ∷ not_known c name ∷ tests) c t a
     refused_unknown e g = let n = unknown_of e g in refuse_3 c t a name tests n.passed.unbroken n.good n.new
+
+    pub refused_lost : {x : Sought} {why : Refusal} → Ok x ≡ sought_of c name → Err why ≡ ok_or x.found no.NotKnown → refused (number_of why) (rule_of why) c t ≡ unless (damaged c ∷ bad_name name ∷ not_known c name ∷ tests) c t a
+    refused_lost {x = x} {why = why} e g = let z = lost x.found no.NotKnown why g in rw z.1 (refused_unknown e z.0)
 
     pub refused-known : {x : Sought} {f : Found} → Ok x ≡ sought_of c name → x.found ≡ Some f → refused 4 0 c t ≡ unless (damaged c ∷ bad_name name ∷ already_known c name ∷ tests) c t a
     refused-known e g = let n = known_of e g in refuse_4 c t a name tests n.passed.unbroken n.good n.found
