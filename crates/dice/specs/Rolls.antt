@@ -19,6 +19,6 @@ noise_of zero x = []
 noise_of (suc n) x = noise_of n (rolled x) ++ (rolled x % 256) ∷ []
 
 -- A list whose first `n` items were shuffled: the last of them goes to a place that is drawn, then the one before it.
-abbrev pub shuffled : ℕ → ℕ → List ℕ → List ℕ
+abbrev pub shuffled : {A : Type 0} → ℕ → ℕ → List A → List A
 shuffled zero x items = items
 shuffled (suc n) x items = shuffled n (rolled x) (swap items n (rest_of (rolled x) (n + 1)))

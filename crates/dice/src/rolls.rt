@@ -74,7 +74,7 @@ impl Dice {
     }
 
     // The items in another order.
-    pub fn shuffle(&mut self, items: &mut [usize])
+    pub fn shuffle<T>(&mut self, items: &mut [T])
         ensures order { items.new ≡ shuffled (length items.old) self.old items.old }
         ensures permutation { IsPermutation items.old items.new }
         ensures state { self.new ≡ rolled_times (length items.old) self.old }
