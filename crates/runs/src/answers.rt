@@ -1,4 +1,7 @@
 // What a call answered, in the numbers that are printed.
+ghost use Rattle.std.specs.Prelude.{◌≡◌};
+ghost use Rattle.layout.specs.Answers.{number_of, rule_of};
+
 use layout::answers::{Counted, Done, Listed, Refusal, Sized};
 use std::fmt;
 
@@ -17,6 +20,8 @@ impl fmt::Display for Answer {
 }
 
 impl From<Refusal> for Answer {
+    ghost from_gives = { λ why a. (a.number ≡ number_of why) × (a.small ≡ rule_of why) × (a.large ≡ 0) };
+
     fn from(why: Refusal) -> Answer {
         let (number, small) = match why {
             Refusal::Damaged(rule) => (1, usize::from(rule)),

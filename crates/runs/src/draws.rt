@@ -2,8 +2,8 @@
 ghost use Rattle.std.specs.Prelude.{◌≤◌};
 
 use crate::calls::{Call, Op};
-use crate::kinds::{Kind, Run};
-use crate::stage::Stage;
+use crate::course::Course;
+use crate::kinds::Kind;
 use dice::Dice;
 use dice::sums::times;
 use std::io;
@@ -50,43 +50,39 @@ fn tray_length(dice: &mut Dice) -> usize {
     }
 }
 
-impl<'a, R: Print> Stage<'a, R> {
+impl<'a, 'b, R: Print> Course<'a, 'b, R> {
     // The place of a call; the stream's size is asked first where it matters.
-    pub fn draw_place(
-        &mut self,
-        card: &mut [u8],
-        run: Run,
-        op: Op,
-        name: usize,
-    ) -> io::Result<usize> {
+    pub fn draw_place(&mut self, op: Op, name: usize) -> io::Result<usize> {
         match op {
             Op::Write | Op::Read | Op::Truncate => {
-                let size = self.show(card, Call::plain(Op::Size, name, 0))?.large;
-                Ok(near(&mut self.dice, size.min(MOST_BYTES), run.block()))
+                let size = self.show(Call::plain(Op::Size, name, 0))?.large;
+                let z = self.run.block();
+                Ok(near(&mut self.dice, size.min(MOST_BYTES), z))
             }
-            Op::List => Ok(self.dice.below(run.kind.pool() + 2)),
+            Op::List => Ok(self.dice.below(self.run.kind.pool() + 2)),
             _ => Ok(0),
         }
     }
 
     // How much is written: by the kind, and at the edge by what is free.
-    fn write_length(&mut self, card: &mut [u8], run: Run) -> io::Result<usize> {
-        if run.kind == Kind::Edge {
-            let room = self.show(card, Call::plain(Op::Room, 0, 0))?.large;
+    fn write_length(&mut self) -> io::Result<usize> {
+        let z = self.run.block();
+        if self.run.kind == Kind::Edge {
+            let room = self.show(Call::plain(Op::Room, 0, 0))?.large;
             let blocks = self.dice.below(room.min(MOST_BLOCKS) + 3);
             let more = self.dice.below(4);
-            return Ok((times(run.block(), blocks) + more).saturating_sub(2));
+            return Ok((times(z, blocks) + more).saturating_sub(2));
         }
         if self.dice.below(8) == 0 {
             return Ok(0);
         }
-        Ok(self.dice.below(run.kind.longest(run.block()) + 1))
+        Ok(self.dice.below(self.run.kind.longest(z) + 1))
     }
 
     // How long a call's data or tray is.
-    pub fn draw_length(&mut self, card: &mut [u8], run: Run, op: Op) -> io::Result<usize> {
+    pub fn draw_length(&mut self, op: Op) -> io::Result<usize> {
         match op {
-            Op::Write => self.write_length(card, run),
+            Op::Write => self.write_length(),
             Op::Read | Op::List => Ok(tray_length(&mut self.dice)),
             _ => Ok(0),
         }

@@ -44,7 +44,9 @@ impl Kind {
     }
 
     // The shift of its run `i`.
-    fn shift(self, i: usize) -> usize {
+    fn shift(self, i: usize) -> usize
+        ensures { result ≤ 12 }
+    {
         match self {
             Kind::Tall => 6,
             Kind::Crowd | Kind::Scrambled => 6 + i % 3,
@@ -55,6 +57,7 @@ impl Kind {
     // How many blocks of `z` bytes a card has.
     fn blocks(self, dice: &mut Dice, z: usize) -> usize
         requires { 1 ≤ z }
+        ensures { result ≤ 4096 }
     {
         match self {
             Kind::Tiny => 1 + dice.below(8),
@@ -68,7 +71,9 @@ impl Kind {
     }
 
     // How many names are created at first.
-    pub fn made(self) -> usize {
+    pub fn made(self) -> usize
+        ensures { result ≤ 255 }
+    {
         match self {
             Kind::Tiny => 0,
             Kind::Common => 3,

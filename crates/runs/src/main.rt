@@ -4,6 +4,7 @@
 
 mod answers;
 mod calls;
+mod course;
 mod damage;
 mod draws;
 mod kinds;

@@ -1,45 +1,45 @@
 // Rounds of damage (R7).
 use crate::calls::{Call, Op};
+use crate::course::Course;
 use crate::damage::Damage;
 use crate::draws::draw_name;
-use crate::kinds::Run;
-use crate::stage::Stage;
 use std::io;
 
-impl<'a, R: Print> Stage<'a, R> {
-    // All ten calls on a damaged card, of which `lent` bytes are lent.
-    fn spoilt_calls(&mut self, card: &mut [u8], lent: usize, pool: usize) -> io::Result<()> {
+impl<'a, 'b, R: Print> Course<'a, 'b, R> {
+    // All ten calls on the damaged card, of which `lent` bytes are lent.
+    fn spoilt_calls(&mut self, lent: usize) -> io::Result<()> {
         for op in Op::ALL {
             let call = Call {
                 op,
-                name: draw_name(&mut self.dice, pool),
+                name: draw_name(&mut self.dice, self.run.kind.pool()),
                 place: self.dice.below(5),
                 length: self.dice.below(700),
                 from: self.dice.below(1000),
             };
-            self.show_on(card, lent, call)?;
+            self.stage.show_on(&mut *self.card, lent, call)?;
         }
         Ok(())
     }
 
     // The card is made anew where it is not sound.
-    fn renew(&mut self, card: &mut [u8], shift: usize) -> io::Result<()> {
-        let answer = self.show(card, Call::plain(Op::Check, 0, 0))?;
+    fn renew(&mut self) -> io::Result<()> {
+        let answer = self.show(Call::plain(Op::Check, 0, 0))?;
         if answer.number != 0 {
-            self.show(card, Call::plain(Op::Format, 0, shift))?;
+            self.show(Call::plain(Op::Format, 0, self.run.shift))?;
         }
         Ok(())
     }
 
     // A round of damage: the ten calls on the card with a number added to one byte, which is then taken away again.
-    pub fn round(&mut self, card: &mut [u8], run: Run) -> io::Result<()> {
+    pub fn round(&mut self) -> io::Result<()> {
+        let len = self.card.len();
         let damage = Damage::ALL[1 + self.dice.below(9)];
-        let back = self.dice.below(damage.span(card.len()));
+        let back = self.dice.below(damage.span(len));
         let n = (1 + self.dice.below(255)) as u8;
-        let spoilt = damage.at(card.len(), run.block(), back);
-        spoilt.add(card, n);
-        self.spoilt_calls(card, spoilt.lent, run.kind.pool())?;
-        spoilt.mend(card, n);
-        self.renew(card, run.shift)
+        let spoilt = damage.at(len, self.run.block(), back);
+        spoilt.add(&mut *self.card, n);
+        self.spoilt_calls(spoilt.lent)?;
+        spoilt.mend(&mut *self.card, n);
+        self.renew()
     }
 }

@@ -94,13 +94,7 @@ impl Situation {
 
 impl<'a, R: Print> Stage<'a, R> {
     // A call on the card as it was kept, damaged.
-    fn turn(
-        &mut self,
-        card: &mut [u8],
-        kept: &[u8],
-        spoilt: Spoilt,
-        call: Call,
-    ) -> io::Result<()> {
+    fn turn(&mut self, card: &mut [u8], kept: &[u8], spoilt: Spoilt, call: Call) -> io::Result<()> {
         for (b, was) in card.iter_mut().zip(kept) {
             *b = *was;
         }
@@ -110,13 +104,7 @@ impl<'a, R: Print> Stage<'a, R> {
     }
 
     // A call with all its arguments: the name changes slowest, the length fastest.
-    fn turns(
-        &mut self,
-        card: &mut [u8],
-        kept: &[u8],
-        spoilt: Spoilt,
-        op: Op,
-    ) -> io::Result<()> {
+    fn turns(&mut self, card: &mut [u8], kept: &[u8], spoilt: Spoilt, op: Op) -> io::Result<()> {
         for &name in op.names() {
             for &place in op.places() {
                 for &length in op.lengths() {

@@ -1,4 +1,4 @@
-// What all runs share: where lines are printed, what allocates, the dice, the tray and the data (R1).
+// What all runs share: where lines are printed, what allocates, the tray and the data (R1).
 use crate::answers::Answer;
 use crate::calls::Call;
 use crate::spelling::spell;
@@ -19,13 +19,11 @@ const UNUSED: u8 = 238;
 pub struct Stage<'a, R: Print> {
     rt: &'a R,
     pub alloc: Global,
-    pub dice: Dice,
     tray: Vec<u8>,
     text: Vec<u8>,
 }
 
 impl<'a, R: Print> Stage<'a, R> {
-    // Its dice are those that made the data; each run takes its own.
     pub fn new(rt: &'a R, alloc: Global) -> io::Result<Stage<'a, R>> {
         let mut dice = Dice::new(1);
         let mut text = vec![in alloc; 0u8; DATA]?;
@@ -34,7 +32,6 @@ impl<'a, R: Print> Stage<'a, R> {
         Ok(Stage {
             rt,
             alloc,
-            dice,
             tray,
             text,
         })

@@ -1,5 +1,6 @@
 // The runs and their steps (R5, R6).
 use crate::calls::{Call, Op};
+use crate::course::Course;
 use crate::draws::draw_name;
 use crate::kinds::{Kind, Run};
 use crate::stage::Stage;
@@ -25,15 +26,15 @@ fn choice(a: usize) -> Option<Op> {
     }
 }
 
-impl<'a, R: Print> Stage<'a, R> {
+impl<'a, 'b, R: Print> Course<'a, 'b, R> {
     // A call as it is drawn, or a round of damage.
-    fn step(&mut self, card: &mut [u8], run: Run) -> io::Result<()> {
+    fn step(&mut self) -> io::Result<()> {
         let Some(op) = choice(self.dice.below(20)) else {
-            return self.round(card, run);
+            return self.round();
         };
-        let name = draw_name(&mut self.dice, run.kind.pool());
-        let place = self.draw_place(card, run, op, name)?;
-        let length = self.draw_length(card, run, op)?;
+        let name = draw_name(&mut self.dice, self.run.kind.pool());
+        let place = self.draw_place(op, name)?;
+        let length = self.draw_length(op)?;
         let from = self.dice.below(1000);
         let call = Call {
             op,
@@ -42,29 +43,31 @@ impl<'a, R: Print> Stage<'a, R> {
             length,
             from,
         };
-        self.show(card, call)?;
+        self.show(call)?;
         Ok(())
     }
 
     // In a scrambled run each name gets a block, and most of them go: their blocks are then free in a drawn order.
-    fn scramble(&mut self, card: &mut [u8], made: usize) -> io::Result<()> {
-        self.write_ones(card, made)?;
+    fn scramble(&mut self) -> io::Result<()> {
+        let made = self.run.kind.made();
+        self.stage.write_ones(&mut *self.card, made)?;
         for _ in 0..DELETES {
             let name = self.dice.below(made);
-            self.show(card, Call::plain(Op::Delete, name, 0))?;
+            self.show(Call::plain(Op::Delete, name, 0))?;
         }
         Ok(())
     }
 
-    // A run on a card of the right length.
-    fn take(&mut self, card: &mut [u8], run: Run) -> io::Result<()> {
-        let made = run.kind.made();
-        self.begin(card, run.shift, made)?;
-        if run.kind == Kind::Scrambled {
-            self.scramble(card, made)?;
+    // The whole run.
+    fn take(&mut self) -> io::Result<()> {
+        let kind = self.run.kind;
+        self.stage
+            .begin(&mut *self.card, self.run.shift, kind.made())?;
+        if kind == Kind::Scrambled {
+            self.scramble()?;
         }
-        for _ in 0..run.kind.steps() {
-            self.step(card, run)?;
+        for _ in 0..kind.steps() {
+            self.step()?;
         }
         Ok(())
     }
@@ -74,10 +77,16 @@ impl<'a, R: Print> Stage<'a, R> {
 pub fn runs<R: Print>(stage: &mut Stage<R>, row: &mut [u8]) -> io::Result<()> {
     for kind in Kind::ALL {
         for i in 0..kind.runs() {
-            stage.dice = Dice::started(1 + 1000 * (kind as usize) + i);
-            let run = Run::drawn(&mut stage.dice, kind, i);
+            let mut dice = Dice::started(1 + 1000 * (kind as usize) + i);
+            let run = Run::drawn(&mut dice, kind, i);
             let len = run.len.min(row.len());
-            stage.take(&mut row[..len], run)?;
+            let mut course = Course {
+                stage: &mut *stage,
+                card: &mut row[..len],
+                dice,
+                run,
+            };
+            course.take()?;
         }
     }
     Ok(())
