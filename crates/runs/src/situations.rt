@@ -1,4 +1,6 @@
 // Five cards, and on each all calls with all their arguments (R8, R9).
+ghost use Rattle.std.specs.Prelude.{◌≡◌, length};
+
 use crate::calls::{Call, Op};
 use crate::damage::{Damage, Spoilt};
 use crate::stage::Stage;
@@ -93,18 +95,10 @@ impl Situation {
 }
 
 impl<'a, R: Print> Stage<'a, R> {
-    // A call on the card as it was kept, damaged.
-    fn turn(&mut self, card: &mut [u8], kept: &[u8], spoilt: Spoilt, call: Call) -> io::Result<()> {
-        for (b, was) in card.iter_mut().zip(kept) {
-            *b = *was;
-        }
-        spoilt.add(card, 1);
-        self.show_on(card, spoilt.lent, call)?;
-        Ok(())
-    }
-
-    // A call with all its arguments: the name changes slowest, the length fastest.
-    fn turns(&mut self, card: &mut [u8], kept: &[u8], spoilt: Spoilt, op: Op) -> io::Result<()> {
+    // A call with all its arguments, each time on the card as it was kept, damaged: the name changes slowest, the length fastest.
+    fn turns(&mut self, card: &mut [u8], kept: &[u8], spoilt: Spoilt, op: Op) -> io::Result<()>
+        requires { length kept.now ≡ length card.old }
+    {
         for &name in op.names() {
             for &place in op.places() {
                 for &length in op.lengths() {
@@ -115,7 +109,9 @@ impl<'a, R: Print> Stage<'a, R> {
                         length,
                         from: 0,
                     };
-                    self.turn(card, kept, spoilt, call)?;
+                    card.copy_from_slice(kept);
+                    spoilt.add(card, 1);
+                    self.show_on(card, spoilt.lent, call)?;
                 }
             }
         }
