@@ -1,6 +1,8 @@
 // Damage (R4): a shorter card, or a number added to one byte.
 ghost use Rattle.std.specs.Prelude.{◌≤◌};
 
+use crate::kinds::HEAD;
+
 // What is hit, in the order of the damages' numbers.
 #[derive(Clone, Copy, PartialEq, Eq)]
 pub enum Damage {
@@ -34,7 +36,7 @@ impl Damage {
     pub fn span(self, len: usize) -> usize {
         match self {
             Damage::Nothing => 1,
-            Damage::Length => 87,
+            Damage::Length => HEAD,
             Damage::FixedValues | Damage::TableDescriptor => 25,
             Damage::WholeBlocks => 63,
             Damage::RootDescriptor => 33,
@@ -50,7 +52,7 @@ impl Damage {
     {
         let last = match self {
             Damage::Nothing => return Spoilt::shorter(len),
-            Damage::Length => return Spoilt::shorter(86usize.saturating_sub(back)),
+            Damage::Length => return Spoilt::shorter((HEAD - 1).saturating_sub(back)),
             Damage::WholeBlocks => {
                 return Spoilt::shorter(len.saturating_sub(1).saturating_sub(back));
             }
@@ -59,7 +61,7 @@ impl Damage {
             Damage::RootDescriptor => 119,
             Damage::RootTop => 110,
             Damage::FirstFree => 34,
-            Damage::FirstEntry => 92 + z,
+            Damage::FirstEntry => HEAD + 5 + z,
             Damage::AnyByte => len.saturating_sub(1),
         };
         Spoilt {

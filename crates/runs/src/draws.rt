@@ -3,15 +3,13 @@ ghost use Rattle.std.specs.Prelude.{◌≤◌};
 
 use crate::calls::{Call, Op};
 use crate::course::Course;
-use crate::kinds::Kind;
+use crate::kinds::{Kind, MOST_BLOCKS};
 use dice::Dice;
 use dice::sums::times;
 use std::io;
 
-// No size and no number of free blocks is above these.
+// No stream is longer.
 const MOST_BYTES: usize = 16777216;
-
-const MOST_BLOCKS: usize = 4096;
 
 // Where the bad names begin.
 const FIRST_BAD: usize = 255;

@@ -4,8 +4,13 @@ ghost use Rattle.std.specs.Prelude.{◌≤◌};
 use dice::Dice;
 use dice::sums::{block_bytes, times};
 
-// The most blocks that a card has.
-const MOST_BLOCKS: usize = 4096;
+// The bytes before a card's blocks, and the most blocks that it has.
+pub const HEAD: usize = 87;
+
+pub const MOST_BLOCKS: usize = 4096;
+
+// The bytes of a large card's blocks, where it may have as many.
+const LARGE: usize = 1048576;
 
 // In the order of their numbers.
 #[derive(Clone, Copy, PartialEq, Eq)]
@@ -65,7 +70,7 @@ impl Kind {
             Kind::Edge => 6 + dice.below(30),
             Kind::Tall => 400 + dice.below(300),
             Kind::Crowd => 290 + dice.below(20),
-            Kind::Large => dice.below(1) + (1048576 / z).min(MOST_BLOCKS),
+            Kind::Large => dice.below(1) + (LARGE / z).min(MOST_BLOCKS),
             Kind::Scrambled => 90 + dice.below(60),
         }
     }
@@ -139,7 +144,7 @@ impl Run {
         Run {
             kind,
             shift,
-            len: 87 + times(blocks, z),
+            len: HEAD + times(blocks, z),
         }
     }
 

@@ -3,6 +3,7 @@ ghost use Rattle.std.specs.Prelude.{◌≡◌, length};
 
 use crate::calls::{Call, Op};
 use crate::damage::{Damage, Spoilt};
+use crate::kinds::HEAD;
 use crate::stage::Stage;
 use dice::sums::times;
 use std::io;
@@ -138,7 +139,7 @@ impl<'a, R: Print> Stage<'a, R> {
 // All five, on the first bytes of the row.
 pub fn situations<R: Print>(stage: &mut Stage<R>, row: &mut [u8]) -> io::Result<()> {
     for situation in Situation::ALL {
-        let len = (87 + times(situation.blocks, BLOCK)).min(row.len());
+        let len = (HEAD + times(situation.blocks, BLOCK)).min(row.len());
         stage.try_all(&mut row[..len], situation)?;
     }
     Ok(())
