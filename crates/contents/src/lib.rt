@@ -36,12 +36,7 @@ pub fn read(card: &[u8], name: &[u8], place: usize, tray: &mut [u8]) -> Result<u
 }
 
 // The bytes `given` go into the stream from `place` on. More bytes than any card holds find no room; the other numbers then fit.
-pub fn write(
-    card: &mut [u8],
-    name: &[u8],
-    place: usize,
-    given: &[u8],
-) -> Result<usize, Refusal>
+pub fn write(card: &mut [u8], name: &[u8], place: usize, given: &[u8]) -> Result<usize, Refusal>
     ensures { Writes card.old name.now place given.now result card.new }
 {
     let Sought { shape, found } = seek(&*card, name)?;
@@ -67,7 +62,8 @@ pub fn truncate(card: &mut [u8], name: &[u8], n: usize) -> Result<(), Refusal>
 {
     let Sought { shape, found } = seek(&*card, name)?;
     let entry = found.ok_or(Refusal::NotKnown)?;
-    if holding::read::size(&*card, shape, entry.index) < n {
+    let size = holding::read::size(&*card, shape, entry.index);
+    if size < n {
         return Err(Refusal::PastTheEnd);
     }
     holding::write::truncate(card, shape, entry.index, n);

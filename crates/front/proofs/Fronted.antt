@@ -3,7 +3,7 @@ use mathlib.Core.Path.{◌≡◌, refl, sym, subst, ◌∙◌}
 use mathlib.Core.Bool.{Bool, true, false}
 use mathlib.Core.List.{List, ◌∷◌}
 use Rattle.std.specs.Prelude.{Option, Some, None, Result, Ok, Err}
-use Rattle.std.specs.Option.{ok_or}
+use Rattle.std.specs.Option.{ok_or, is_some}
 use Prim.Native.Nat.{ℕ}
 use native.Mathlib.Nat.{zero-add}
 use lib.ListN.{length}
@@ -123,6 +123,12 @@ module _ (c name : List ℕ) where
   pub unknown_of : {x : Sought} → Ok x ≡ sought_of c name → x.found ≡ None → Fresh c name x.shape
   unknown_of e g = places e g
 
+  pub fresh_of : {x : Sought} → Ok x ≡ sought_of c name → is_some x.found ≡ false → Fresh c name x.shape
+  fresh_of {x = x} e g = go x.found refl g where
+    go : (o : Option Found) → x.found ≡ o → is_some o ≡ false → Fresh c name x.shape
+    go (Some f) h k = absurd (cc)
+    go None h k = unknown_of e h
+
   module _ (t : List ℕ) (a : Outcome) (tests : List Test) where
     pub refused-first : {why : Refusal} → Err why ≡ sought_of c name → refused (number_of why) (rule_of why) c t ≡ unless (damaged c ∷ bad_name name ∷ tests) c t a
     refused-first e = subst (λ (r : Result Sought Refusal). Seeks c name r) (sym e) (seeks c name) t a tests
@@ -133,8 +139,11 @@ module _ (c name : List ℕ) where
     pub refused_lost : {x : Sought} {why : Refusal} → Ok x ≡ sought_of c name → Err why ≡ ok_or x.found no.NotKnown → refused (number_of why) (rule_of why) c t ≡ unless (damaged c ∷ bad_name name ∷ not_known c name ∷ tests) c t a
     refused_lost {x = x} {why = why} e g = let z = lost x.found no.NotKnown why g in rw z.1 (refused_unknown e z.0)
 
-    pub refused-known : {x : Sought} {f : Found} → Ok x ≡ sought_of c name → x.found ≡ Some f → refused 4 0 c t ≡ unless (damaged c ∷ bad_name name ∷ already_known c name ∷ tests) c t a
-    refused-known e g = let n = known_of e g in refuse_4 c t a name tests n.passed.unbroken n.good n.found
+    pub refused-known : {x : Sought} → Ok x ≡ sought_of c name → is_some x.found ≡ true → refused 4 0 c t ≡ unless (damaged c ∷ bad_name name ∷ already_known c name ∷ tests) c t a
+    refused-known {x = x} e g = go x.found refl g where
+      go : (o : Option Found) → x.found ≡ o → is_some o ≡ true → refused 4 0 c t ≡ unless (damaged c ∷ bad_name name ∷ already_known c name ∷ tests) c t a
+      go (Some f) h k = let n = known_of e h in refuse_4 c t a name tests n.passed.unbroken n.good n.found
+      go None h k = absurd (cc)
 
 -- a name that is known is past the three tests
 module _ {c name : List ℕ} {s : Shape} {k at : ℕ} (n : Named c name s k at) where

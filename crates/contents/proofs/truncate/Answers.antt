@@ -16,17 +16,17 @@ pub returns-in_err-entry : goal.returns-in_err-entry
 unfolding Truncates truncate
 returns-in_err-entry c = let p = err_from_is_err_and c.from_residual-in_err-entry.result c.from_residual-in_err-entry.ensures.1 in rw (p.1, p.2) (refused_lost _ _ _ _ _ c.in_ok-shape.ensures c.in_err-entry.ensures.value)
 
-pub size-requires : goal.size-requires
-size-requires c = asked (known_of _ _ c.in_ok-shape.ensures c.in_ok-entry.ensures.ok_part)
+pub size-size-requires : goal.size-size-requires
+size-size-requires c = asked (known_of _ _ c.in_ok-shape.ensures c.in_ok-entry.ensures.ok_part)
 
 pub returns-then-size-n : goal.returns-then-size-n
 unfolding Truncates truncate
-returns-then-size-n c = refused_past (known_of _ _ c.in_ok-shape.ensures c.in_ok-entry.ensures.ok_part) _ _ c.size.ensures c.if-size-n.true _ _ _
+returns-then-size-n c = refused_past (known_of _ _ c.in_ok-shape.ensures c.in_ok-entry.ensures.ok_part) _ _ c.size-size.ensures c.if-size-n.true _ _ _
 
 pub truncate-requires : goal.truncate-requires
 truncate-requires c = let n = known_of _ _ c.in_ok-shape.ensures c.in_ok-entry.ensures.ok_part in
-    (small_of n.passed, index-low n, omega (arith, c.size.ensures, c.if-size-n.false, size_low n))
+    (small_of n.passed, index-low n, omega (arith, c.size-size.ensures, c.if-size-n.false, size_low n))
 
 pub returns : goal.returns
 unfolding Truncates
-returns c = truncate-done (known_of _ _ c.in_ok-shape.ensures c.in_ok-entry.ensures.ok_part) _ _ c.size.ensures c.if-size-n.false _ c.truncate.ensures
+returns c = truncate-done (known_of _ _ c.in_ok-shape.ensures c.in_ok-entry.ensures.ok_part) _ _ c.size-size.ensures c.if-size-n.false _ c.truncate.ensures

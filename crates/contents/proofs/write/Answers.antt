@@ -1,8 +1,6 @@
 -- `contents::write` keeps its promise.
-use mathlib.Core.Path.{◌≡◌, ap}
-use Prim.Native.Nat.{◌+◌, max}
+use mathlib.Core.Path.{ap}
 use native.Mathlib.Omega.{arith}
-use lib.ListN.{length}
 use Rattle.std.proofs.lemmas.Result.{err_from_is_err_and}
 use Rattle.layout.specs.Promises.{Writes}
 use Rattle.layout.specs.Calls.{write}
@@ -28,16 +26,16 @@ pub returns-then-t-place : goal.returns-then-t-place
 unfolding Writes write
 returns-then-t-place c = refused_past (known_of _ _ c.in_ok-shape.ensures c.in_ok-entry.ensures.ok_part) _ _ (ap (λ (d : Desc). d.size) c.stream-t.ensures) c.if-t-place.true _ _ _
 
-pub returns-then-n-gt4294967296 : goal.returns-then-n-gt4294967296
+pub returns-then-n-gt-MOST_GIVEN : goal.returns-then-n-gt-MOST_GIVEN
 unfolding Writes
-returns-then-n-gt4294967296 c = write-long (known_of _ _ c.in_ok-shape.ensures c.in_ok-entry.ensures.ok_part) _ c.stream-t.ensures _ c.if-t-place.false _ c.if-n-gt4294967296.true
+returns-then-n-gt-MOST_GIVEN c = write-long (known_of _ _ c.in_ok-shape.ensures c.in_ok-entry.ensures.ok_part) _ c.stream-t.ensures _ c.if-t-place.false _ c.if-n-gt-MOST_GIVEN.true
 
 pub overflow_add-place : goal.overflow_add-place
-overflow_add-place c = omega (arith, c.if-t-place.false, c.if-n-gt4294967296.false, size_fits (known_of _ _ c.in_ok-shape.ensures c.in_ok-entry.ensures.ok_part) _ c.stream-t.ensures)
+overflow_add-place c = omega (arith, c.if-t-place.false, c.if-n-gt-MOST_GIVEN.false, size_fits (known_of _ _ c.in_ok-shape.ensures c.in_ok-entry.ensures.ok_part) _ c.stream-t.ensures)
 
 pub wants-requires : goal.wants-requires
 wants-requires c = let n = known_of _ _ c.in_ok-shape.ensures c.in_ok-entry.ensures.ok_part in
-    ((small_of n.passed).least, (small_of n.passed).most, omega (arith, c.if-t-place.false, c.if-n-gt4294967296.false, size_fits n _ c.stream-t.ensures))
+    ((small_of n.passed).least, (small_of n.passed).most, omega (arith, c.if-t-place.false, c.if-n-gt-MOST_GIVEN.false, size_fits n _ c.stream-t.ensures))
 
 pub enough-requires : goal.enough-requires
 enough-requires c = (asked (known_of _ _ c.in_ok-shape.ensures c.in_ok-entry.ensures.ok_part)).0
@@ -48,7 +46,7 @@ returns-then-not-enough c = write-full (known_of _ _ c.in_ok-shape.ensures c.in_
 
 pub write-requires : goal.write-requires
 write-requires c = let n = known_of _ _ c.in_ok-shape.ensures c.in_ok-entry.ensures.ok_part in
-    (small_of n.passed, index-low n, omega (arith, c.if-t-place.false, c.if-n-gt4294967296.false, size_fits n _ c.stream-t.ensures))
+    (small_of n.passed, index-low n, omega (arith, c.if-t-place.false, c.if-n-gt-MOST_GIVEN.false, size_fits n _ c.stream-t.ensures))
 
 pub returns : goal.returns
 unfolding Writes
