@@ -3,7 +3,6 @@ ghost use Rattle.std.specs.Prelude.{◌≡◌, ◌^◌, ◌<◌, ◌≤◌, leng
 ghost use Rattle.layout.specs.Bytes.{num, bytes};
 ghost use Rattle.layout.specs.Streams.{table, table_bytes, offset, slots, stream, in_table, table_lengthened};
 ghost use Rattle.layout.specs.Calls.{new_index, described, create_wants_in, created_in};
-ghost use Rattle.layout.specs.Ranges.{Small};
 ghost use Rattle.acts.specs.Fits.{Fits};
 ghost use Rattle.acts.specs.Full.{full_table};
 
@@ -11,7 +10,7 @@ use blocks::chain::END8;
 use filing::edits::append;
 use holding::read::size;
 use holding::room::wants;
-use layout::Shape;
+use blocks::cut::Cut;
 use layout::limits::most_streams;
 use stream::descs::{descriptors, stream, table};
 use stream::inside::{lay_in_table, put_table_number, table_number};
@@ -23,8 +22,7 @@ pub(crate) const FIRST_PLACE: usize = 8;
 pub(crate) const LENGTH: usize = 25;
 
 // The index that a new stream gets.
-pub fn new_index(card: &[u8], s: Shape) -> usize
-    requires { Small card.now s }
+pub fn new_index(card: &[u8], s: Cut) -> usize
     ensures { result ≡ new_index (table_bytes card.now s) }
 {
     let first = table_number(card, s, 0);
@@ -35,16 +33,15 @@ pub fn new_index(card: &[u8], s: Shape) -> usize
 }
 
 // Whether the table can take no more streams.
-pub fn full(card: &[u8], s: Shape) -> bool
-    requires { Small card.now s }
+pub fn full(card: &[u8], s: Cut) -> bool
     ensures { result ≡ full_table (table_bytes card.now s) }
 {
     table_number(card, s, 0) == END8 && most_streams() <= descriptors(card, s)
 }
 
 // The free descriptor at `first` comes off the chain and becomes all zero.
-fn reuse_descriptor(card: &mut [u8], s: Shape, first: usize)
-    requires { Small card.old s × (first < 2 ^ 61) }
+fn reuse_descriptor(card: &mut [u8], s: Cut, first: usize)
+    requires { (first < 2 ^ 61) }
     ensures { card.new ≡ in_table (in_table card.old s 0 (bytes 8 (num 8 (table_bytes card.old s) first))) s first (replicate 25 0) }
 {
     let after = table_number(card, s, first);
@@ -53,8 +50,8 @@ fn reuse_descriptor(card: &mut [u8], s: Shape, first: usize)
 }
 
 // One descriptor more at the table's end, all zero.
-fn add_descriptor(card: &mut [u8], s: Shape)
-    requires { Small card.old s × ((table card.old s).size < 2 ^ 61) }
+fn add_descriptor(card: &mut [u8], s: Cut)
+    requires { ((table card.old s).size < 2 ^ 61) }
     ensures { card.new ≡ in_table (table_lengthened card.old s) s (offset (slots (table_bytes card.old s))) (replicate 25 0) }
 {
     let n = descriptors(card, s);
@@ -64,8 +61,8 @@ fn add_descriptor(card: &mut [u8], s: Shape)
 
 // The descriptor that a new stream gets.
 #[tactic(auto, unfolding(layout::specs::Calls::described))]
-pub fn describe(card: &mut [u8], s: Shape)
-    requires { Small card.old s × Fits card.old s }
+pub fn describe(card: &mut [u8], s: Cut)
+    requires { Fits card.old s }
     ensures { card.new ≡ described card.old s }
 {
     let first = table_number(card, s, 0);
@@ -77,8 +74,8 @@ pub fn describe(card: &mut [u8], s: Shape)
 }
 
 // The blocks that a create takes: the table's, where no descriptor is free, and the directory's.
-pub fn create_wants(card: &[u8], s: Shape, k: usize, name: &[u8]) -> usize
-    requires { Small card.now s × (k < 2 ^ 56) × (length name.now ≤ 64) × ((table card.now s).size < 2 ^ 61) × ((stream card.now s k).size < 2 ^ 61) }
+pub fn create_wants(card: &[u8], s: Cut, k: usize, name: &[u8]) -> usize
+    requires { (k < 2 ^ 56) × (length name.now ≤ 64) × ((table card.now s).size < 2 ^ 61) × ((stream card.now s k).size < 2 ^ 61) }
     ensures { result ≡ create_wants_in card.now s k name.now }
 {
     let d = stream(card, s, k);
@@ -91,8 +88,8 @@ pub fn create_wants(card: &[u8], s: Shape, k: usize, name: &[u8]) -> usize
 }
 
 // A new stream, and its entry at the end of directory `k`.
-pub fn create(card: &mut [u8], s: Shape, k: usize, name: &[u8])
-    requires { Small card.old s × Fits card.old s × (k < 2 ^ 56) × (length name.now ≤ 64) × ((stream card.old s k).size < 2 ^ 61) }
+pub fn create(card: &mut [u8], s: Cut, k: usize, name: &[u8])
+    requires { Fits card.old s × (k < 2 ^ 56) × (length name.now ≤ 64) × ((stream card.old s k).size < 2 ^ 61) }
     ensures { card.new ≡ created_in card.old s k name.now }
 {
     let index = new_index(card, s);

@@ -2,21 +2,20 @@
 ghost use Rattle.std.specs.Prelude.{◌≡◌, ◌+◌, ◌^◌, ◌<◌, ◌≤◌, length};
 ghost use Rattle.layout.specs.Streams.{stream};
 ghost use Rattle.layout.specs.Calls.{undescribed};
-ghost use Rattle.layout.specs.Ranges.{Small};
 ghost use Rattle.acts.specs.Deleted.{deleted_at};
 
 use crate::create::{FIRST_PLACE, LENGTH};
 use blocks::chain::END8;
 use filing::edits::remove;
-use layout::Shape;
+use blocks::cut::Cut;
 use layout::limits::MOST_BLOCKS;
 use memory::bytes::put_number;
 use stream::inside::{lay_in_table, put_table_number, table_number};
 use stream::lengths::shorten;
 
 // Stream `j`'s blocks are given back, and its descriptor goes first on the descriptors' chain. The marks are lent for the work.
-fn undescribe(card: &mut [u8], s: Shape, j: usize, marks: &mut [u8])
-    requires { Small card.old s × (j < 2 ^ 56) × (s.count ≤ length marks.old) }
+fn undescribe(card: &mut [u8], s: Cut, j: usize, marks: &mut [u8])
+    requires { (j < 2 ^ 56) × (s.count ≤ length marks.old) }
     ensures { card.new ≡ undescribed card.old s j }
 {
     let first = table_number(card, s, 0);
@@ -30,8 +29,8 @@ fn undescribe(card: &mut [u8], s: Shape, j: usize, marks: &mut [u8])
 }
 
 // Stream `j` goes, and its entry, which stands at `at` in directory `k` and has a name of `n` bytes.
-pub fn delete(card: &mut [u8], s: Shape, k: usize, j: usize, at: usize, n: usize)
-    requires { Small card.old s × (k < 2 ^ 56) × (j < 2 ^ 56) × (at + n < 2 ^ 61) × ((stream (undescribed card.old s j) s k).size < 2 ^ 62) }
+pub fn delete(card: &mut [u8], s: Cut, k: usize, j: usize, at: usize, n: usize)
+    requires { (k < 2 ^ 56) × (j < 2 ^ 56) × (at + n < 2 ^ 61) × ((stream (undescribed card.old s j) s k).size < 2 ^ 62) }
     ensures { card.new ≡ deleted_at card.old s k j at n }
 {
     let mut marks = [0; MOST_BLOCKS];

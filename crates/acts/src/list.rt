@@ -3,17 +3,16 @@ ghost use Rattle.std.specs.Prelude.{◌≡◌, ◌^◌, ◌<◌, get_or};
 ghost use Rattle.layout.specs.Bytes.{over};
 ghost use Rattle.layout.specs.Streams.{stream};
 ghost use Rattle.layout.specs.Filing.{entries_of, nothing};
-ghost use Rattle.layout.specs.Ranges.{Small};
 ghost use Rattle.filing.specs.Located.{numbered};
 
 use filing::listing::{Row, nth_entry};
 use laying::gather::gather_stream;
-use layout::Shape;
+use blocks::cut::Cut;
 use stream::descs::stream;
 
 // Entry number `n` of directory `k`; where there is one, its name goes into the tray.
-pub fn list(card: &[u8], s: Shape, k: usize, n: usize, tray: &mut [u8]) -> Option<Row>
-    requires { Small card.now s × (k < 2 ^ 56) × ((stream card.now s k).size < 2 ^ 62) }
+pub fn list(card: &[u8], s: Cut, k: usize, n: usize, tray: &mut [u8]) -> Option<Row>
+    requires { (k < 2 ^ 56) × ((stream card.now s k).size < 2 ^ 62) }
     ensures { (result ≡ numbered (entries_of card.now s k) n) × (tray.new ≡ over tray.old 0 (get_or (entries_of card.now s k) n nothing).name) }
 {
     let t = stream(card, s, k);

@@ -1,57 +1,43 @@
--- Places: a block number above 2^32 is past the end of every card, so code may clamp it.
+-- Places: one above every number of 64 bits is past the end of every card, so code may stop at the highest.
 use mathlib.Core.Path.{◌≡◌, sym, ◌∙◌}
 use mathlib.Core.List.{List}
-use Prim.Native.Nat.{ℕ, ◌+◌, ◌*◌, ◌/◌, min, ◌≤◌, ◌<◌}
-use native.Mathlib.Nat.{add-zero, min-eq_left, min-eq_right, le-mul_of_pos_right, le-div_iff_mul-le}
+use Prim.Native.Nat.{ℕ, ◌/◌, min, ◌≤◌, ◌<◌}
+use native.Mathlib.Nat.{min-eq_left, le-div_iff_mul-le}
 use native.Mathlib.Decide.{dec_lt}
 use native.Mathlib.Omega.{arith}
 use lib.ListN.{length, replicate}
 use Rattle.layout.specs.Bytes.{num, bytes, over, put}
 use Rattle.layout.specs.Blocks.{place, first_free, next, taken}
-use Rattle.layout.specs.Ranges.{Small}
 use Rattle.laws.proofs.ByteLaws.{num_past, over_past}
 use Rattle.layout.specs.declared.Shape.{Shape}
 
+-- the highest number of 64 bits
 abbrev pub cap : ℕ
-cap = 4294967296
+cap = 18446744073709551615
 
-pub small_same : {c c' : List ℕ} {s : Shape} → Small c s → length c' ≡ length c → Small c' s
-small_same h e = record { base = h.base; least = h.least; most = h.most; count = h.count; first = h.first; table = h.table; whole = omega (arith, h.whole) }
+-- ---- stopped there
 
--- ---- clamped
-
-module _ (c : List ℕ) (base size : ℕ) (whole : length c ≤ cap) (some : 1 ≤ size) where
-  pub far : (b j : ℕ) → cap ≤ b → length c ≤ base + b * size + j
-  far b j k = omega (arith, le-mul_of_pos_right {m = size} b some)
-
-  pub num-near : (n b j : ℕ) → num n c (base + min b cap * size + j) ≡ num n c (base + b * size + j)
-  num-near n b j = elim (dec_lt b cap) [
-    | yes k ↦ rw (min-eq_left {n = b} {m = cap} (omega arith))
-    | no k ↦ (let l : cap ≤ b = omega arith in
-        rw (min-eq_right {n = cap} {m = b} l) (num_past n c _ (far cap j (omega arith)) ∙ sym (num_past n c _ (far b j l))))
+module _ (c : List ℕ) (whole : length c ≤ cap) (x m : ℕ) (e : m ≡ min x cap) where
+  pub num-near : (n : ℕ) → num n c m ≡ num n c x
+  num-near n = elim (dec_lt x cap) [
+    | yes k ↦ rw (e, min-eq_left {n = x} {m = cap} (omega arith))
+    | no k ↦ num_past n c m (omega arith) ∙ sym (num_past n c x (omega arith))
   ]
 
-  pub over-near : (vs : List ℕ) (b j : ℕ) → over c (base + min b cap * size + j) vs ≡ over c (base + b * size + j) vs
-  over-near vs b j = elim (dec_lt b cap) [
-    | yes k ↦ rw (min-eq_left {n = b} {m = cap} (omega arith))
-    | no k ↦ (let l : cap ≤ b = omega arith in
-        rw (min-eq_right {n = cap} {m = b} l) (over_past vs c _ (far cap j (omega arith)) ∙ sym (over_past vs c _ (far b j l))))
+  pub over-near : (vs : List ℕ) → over c m vs ≡ over c x vs
+  over-near vs = elim (dec_lt x cap) [
+    | yes k ↦ rw (e, min-eq_left {n = x} {m = cap} (omega arith))
+    | no k ↦ over_past vs c m (omega arith) ∙ sym (over_past vs c x (omega arith))
   ]
 
-module _ (c : List ℕ) (s : Shape) (h : Small c s) where
-  some : 1 ≤ s.size
-  some = omega (arith, h.least)
-
-  pub put-near : (n b j v : ℕ) → put n c (place s (min b cap) + j) v ≡ put n c (place s b + j) v
+  pub put-near : (n v : ℕ) → put n c m v ≡ put n c x v
   unfolding put
-  put-near n b j v = over-near c s.base s.size h.whole some (bytes n v) b j
+  put-near n v = over-near (bytes n v)
 
-  block_near : (vs : List ℕ) (b : ℕ) → over c (place s (min b cap)) vs ≡ over c (place s b) vs
-  block_near vs b = rw (add-zero (place s (min b cap)), add-zero (place s b)) at (over-near c s.base s.size h.whole some vs b 0)
-
-  pub taken_is : {b n p : ℕ} {c₁ c₂ : List ℕ} → b ≡ first_free c s → n ≡ next c s b → p ≡ place s (min b cap) → c₁ ≡ over c p (replicate s.size 0) → c₂ ≡ put 8 c₁ s.first n → c₂ ≡ taken c s
-  unfolding taken
-  taken_is e₁ e₂ e₃ e₄ e₅ = e₅ ∙ rw (e₄, e₃, e₂, e₁, block_near)
+pub taken_is : (c : List ℕ) (s : Shape) → length c ≤ cap → {b n p : ℕ} {c₁ c₂ : List ℕ} → b ≡ first_free c s → n ≡ next c s b → p ≡ min (place s b) cap → c₁ ≡ over c p (replicate s.size 0)
+    → c₂ ≡ put 8 c₁ s.first n → c₂ ≡ taken c s
+unfolding taken
+taken_is c s whole {b = b} {p = p} e₁ e₂ e₃ e₄ e₅ = e₅ ∙ rw (e₄, over-near c whole (place s b) p e₃ (replicate s.size 0), e₂, e₁)
 
 -- ---- the fan
 

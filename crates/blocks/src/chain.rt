@@ -1,10 +1,9 @@
 // The free chain: its links, whether it is long enough, taking its head.
 ghost use Rattle.std.specs.Prelude.{◌≡◌};
 ghost use Rattle.layout.specs.Blocks.{wide, narrow, first_free, next, enough, taken};
-ghost use Rattle.layout.specs.Ranges.{Small};
 
-use crate::places::{place, slot};
-use layout::Shape;
+use crate::cut::Cut;
+use crate::places::{slot, start};
 use memory::bytes::{number, put_number};
 use memory::runs::clear;
 
@@ -29,23 +28,21 @@ pub fn narrowed(b: usize) -> usize
     if b == END8 { END4 } else { b }
 }
 
-pub fn first_free(card: &[u8], s: Shape) -> usize
+pub fn first_free(card: &[u8], s: Cut) -> usize
     ensures { result ≡ first_free card.now s }
 {
     number(&*card, s.first, 8)
 }
 
 // The free block after `b`.
-pub fn next(card: &[u8], s: Shape, b: usize) -> usize
-    requires { Small card.now s }
+pub fn next(card: &[u8], s: Cut, b: usize) -> usize
     ensures { result ≡ next card.now s b }
 {
     widened(slot(&*card, s, b, 0))
 }
 
 // Whether `n` blocks are free, in at most `n` steps.
-pub fn enough(card: &[u8], s: Shape, n: usize) -> bool
-    requires { Small card.now s }
+pub fn enough(card: &[u8], s: Cut, n: usize) -> bool
     ensures { result ≡ enough card.now s n }
 {
     let mut b = first_free(&*card, s);
@@ -59,13 +56,12 @@ pub fn enough(card: &[u8], s: Shape, n: usize) -> bool
 }
 
 // Takes the head of the chain, and answers its number.
-pub fn take_block(card: &mut [u8], s: Shape) -> usize
-    requires { Small card.old s }
+pub fn take_block(card: &mut [u8], s: Cut) -> usize
     ensures { (result ≡ first_free card.old s) × (card.new ≡ taken card.old s) }
 {
     let b = first_free(card, s);
     let after = next(card, s, b);
-    clear(card, place(s, b), s.size);
+    clear(card, start(s, b), s.size);
     put_number(card, s.first, 8, after);
     b
 }

@@ -4,6 +4,7 @@
 #![tactic(auto)]
 
 pub mod chain;
+pub mod cut;
 pub mod growth;
 pub mod places;
 pub mod reader;

@@ -1,9 +1,9 @@
 // Where blocks and their slots stand, and what a slot holds.
-ghost use Rattle.std.specs.Prelude.{◌≡◌, ◌+◌, ◌*◌, ◌^◌, min, ◌<◌, ◌≤◌, length};
+ghost use Rattle.std.specs.Prelude.{◌≡◌, ◌+◌, ◌*◌, ◌^◌, min, ◌<◌, ◌≤◌};
 ghost use Rattle.layout.specs.Bytes.{num, put};
 ghost use Rattle.layout.specs.Blocks.{fan, place, slot_place, slot};
-ghost use Rattle.layout.specs.Ranges.{Small};
 
+use crate::cut::Cut;
 use layout::Shape;
 use memory::bytes::{number, put_number};
 
@@ -11,13 +11,13 @@ use memory::bytes::{number, put_number};
 const FAR: usize = 0x1_0000_0000;
 
 // How many indices a redirector holds.
-pub fn fan(s: Shape) -> usize
-    ensures { (result ≡ fan s) × (64 ≤ s.size → 4 ≤ result) }
+pub fn fan(s: Cut) -> usize
+    ensures { (result ≡ fan s) × (4 ≤ result) }
 {
     s.size / 4
 }
 
-// Where block `b` starts; past the end of every card for a `b` above 2^32.
+// Where block `b` starts, on a shape that need not be a card's; past the end of every card for a `b` above 2^32.
 pub fn place(s: Shape, b: usize) -> usize
     requires { (s.base ≤ 1024) × (s.size ≤ 4096) }
     ensures { (result ≡ place s (min b 4294967296)) × (result ≤ 17592186045440) }
@@ -25,26 +25,37 @@ pub fn place(s: Shape, b: usize) -> usize
     s.base + b.min(FAR) * s.size
 }
 
+// Where block `b` starts; where that is no number of 64 bits the highest one, which is past the end of every card.
+pub fn start(s: Cut, b: usize) -> usize
+    ensures { result ≡ min (place s b) 18446744073709551615 }
+{
+    b.saturating_mul(s.size).saturating_add(s.base)
+}
+
 // Index `j` of block `b`, from the numbers alone.
 pub fn index(card: &[u8], base: usize, size: usize, b: usize, j: usize) -> usize
-    requires { (base ≤ 1024) × (64 ≤ size) × (size ≤ 4096) × (j ≤ 4294967296) × (length card.now ≤ 4294967296) }
+    requires { 4 * j < 2 ^ 64 }
     ensures { (result ≡ num 4 card.now (base + b * size + 4 * j)) × (result < 256 ^ 4) }
 {
-    number(&*card, base + b.min(FAR) * size + 4 * j, 4)
+    let at = b
+        .saturating_mul(size)
+        .saturating_add(base)
+        .saturating_add(4 * j);
+    number(&*card, at, 4)
 }
 
 // Index `j` of block `b`.
-pub fn slot(card: &[u8], s: Shape, b: usize, j: usize) -> usize
-    requires { Small card.now s × (j ≤ 4294967296) }
+pub fn slot(card: &[u8], s: Cut, b: usize, j: usize) -> usize
+    requires { j ≤ 4294967296 }
     ensures { (result ≡ slot card.now s b j) × (result < 256 ^ 4) }
 {
     index(&*card, s.base, s.size, b, j)
 }
 
 // `v` as index `j` of block `b`.
-pub fn put_slot(card: &mut [u8], s: Shape, b: usize, j: usize, v: usize)
-    requires { Small card.old s × (j ≤ 4096) }
+pub fn put_slot(card: &mut [u8], s: Cut, b: usize, j: usize, v: usize)
+    requires { j ≤ 4096 }
     ensures { card.new ≡ put 4 card.old (slot_place s b j) v }
 {
-    put_number(card, place(s, b) + 4 * j, 4, v);
+    put_number(card, start(s, b).saturating_add(4 * j), 4, v);
 }

@@ -3,13 +3,13 @@ ghost use Rattle.std.specs.Prelude.{◌≡◌, ◌+◌, ◌^◌, ◌<◌, ◌≤
 ghost use Rattle.layout.specs.Bytes.{over};
 ghost use Rattle.layout.specs.Streams.{stream};
 ghost use Rattle.layout.specs.Filing.{entry_bytes};
-ghost use Rattle.layout.specs.Ranges.{Small};
 ghost use Rattle.filing.specs.Edited.{entered, moved, drawn, removed};
 
 use crate::entries::HEAD;
 use laying::gather::gather_stream;
 use laying::lay::lay_stream;
-use layout::{Desc, Shape};
+use blocks::cut::Cut;
+use layout::Desc;
 use memory::bytes::put_number;
 use memory::runs::copy;
 use stream::descs::stream;
@@ -32,8 +32,8 @@ fn put_entry(page: &mut [u8], index: usize, name: &[u8])
 }
 
 // Directory `k`, which is `p` bytes long, gets an entry at its end.
-pub fn append(card: &mut [u8], s: Shape, k: usize, p: usize, index: usize, name: &[u8])
-    requires { Small card.old s × (k < 2 ^ 56) × (p < 2 ^ 61) × (length name.now ≤ 64) }
+pub fn append(card: &mut [u8], s: Cut, k: usize, p: usize, index: usize, name: &[u8])
+    requires { (k < 2 ^ 56) × (p < 2 ^ 61) × (length name.now ≤ 64) }
     ensures { card.new ≡ entered card.old s k p index name.now }
 {
     let n = HEAD + name.len();
@@ -44,8 +44,8 @@ pub fn append(card: &mut [u8], s: Shape, k: usize, p: usize, index: usize, name:
 }
 
 // `n` bytes of the stream that `t` describes are read from place `q` on and laid from place `p` on.
-fn pull_page(card: &mut [u8], s: Shape, t: Desc, p: usize, q: usize, n: usize)
-    requires { Small card.old s × (p < 2 ^ 62) × (n ≤ 4096) × (q + n ≤ t.size) }
+fn pull_page(card: &mut [u8], s: Cut, t: Desc, p: usize, q: usize, n: usize)
+    requires { (p < 2 ^ 62) × (n ≤ 4096) × (q + n ≤ t.size) }
     ensures { card.new ≡ moved card.old s t p q n }
 {
     let mut page = [0; MOVED];
@@ -54,8 +54,8 @@ fn pull_page(card: &mut [u8], s: Shape, t: Desc, p: usize, q: usize, n: usize)
 }
 
 // What the stream that `t` describes has from place `q` on is pulled forward to place `p`, page by page.
-pub fn pull(card: &mut [u8], s: Shape, t: Desc, p: usize, q: usize)
-    requires { Small card.old s × (t.size < 2 ^ 62) × (p ≤ q) }
+pub fn pull(card: &mut [u8], s: Cut, t: Desc, p: usize, q: usize)
+    requires { (t.size < 2 ^ 62) × (p ≤ q) }
     ensures { card.new ≡ drawn t.size card.old s t p q }
 {
     let size = t.size;
@@ -66,8 +66,8 @@ pub fn pull(card: &mut [u8], s: Shape, t: Desc, p: usize, q: usize)
 }
 
 // Directory `k` without the `n` bytes at `at`: the later ones are pulled forward, then it is shortened. The marks are lent for the work.
-pub fn remove(card: &mut [u8], s: Shape, k: usize, at: usize, n: usize, marks: &mut [u8])
-    requires { Small card.old s × (k < 2 ^ 56) × ((stream card.old s k).size < 2 ^ 62) × (at + n < 2 ^ 62) × (s.count ≤ length marks.old) }
+pub fn remove(card: &mut [u8], s: Cut, k: usize, at: usize, n: usize, marks: &mut [u8])
+    requires { (k < 2 ^ 56) × ((stream card.old s k).size < 2 ^ 62) × (at + n < 2 ^ 62) × (s.count ≤ length marks.old) }
     ensures { card.new ≡ removed card.old s k at n }
 {
     let t = stream(card, s, k);

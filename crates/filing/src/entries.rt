@@ -3,12 +3,12 @@ ghost use Rattle.std.specs.Prelude.{◌≡◌, ◌+◌, ◌^◌, ◌<◌, ◌≤
 ghost use Rattle.layout.specs.Bytes.{num};
 ghost use Rattle.layout.specs.Streams.{data_of, contents, stream};
 ghost use Rattle.layout.specs.Filing.{name_length, entries, entries_of};
-ghost use Rattle.layout.specs.Ranges.{Small};
 ghost use Rattle.filing.specs.Located.{located};
 
 use crate::names::name_is;
 use crate::pages::{PAGE, PIECE, turn};
-use layout::{Desc, Shape};
+use blocks::cut::Cut;
+use layout::Desc;
 use memory::bytes::number;
 use stream::descs::stream;
 
@@ -41,8 +41,8 @@ pub fn read_head(piece: &[u8]) -> Head
 }
 
 // The name's place in the directory that `t` describes, where it is known.
-pub fn find(card: &[u8], s: Shape, t: Desc, name: &[u8]) -> Option<Found>
-    requires { Small card.now s × (t.size < 2 ^ 62) × (length name.now ≤ 64) }
+pub fn find(card: &[u8], s: Cut, t: Desc, name: &[u8]) -> Option<Found>
+    requires { (t.size < 2 ^ 62) × (length name.now ≤ 64) }
     ensures { result ≡ located (entries (contents card.now s t.top (data_of s t) t.size)) name.now 0 }
 {
     let size = t.size;
@@ -70,8 +70,8 @@ pub fn find(card: &[u8], s: Shape, t: Desc, name: &[u8]) -> Option<Found>
 }
 
 // The name's place in directory `k`, where it is known.
-pub fn look_up(card: &[u8], s: Shape, k: usize, name: &[u8]) -> Option<Found>
-    requires { Small card.now s × (k < 2 ^ 56) × (length name.now ≤ 64) × ((stream card.now s k).size < 2 ^ 62) }
+pub fn look_up(card: &[u8], s: Cut, k: usize, name: &[u8]) -> Option<Found>
+    requires { (k < 2 ^ 56) × (length name.now ≤ 64) × ((stream card.now s k).size < 2 ^ 62) }
     ensures { result ≡ located (entries_of card.now s k) name.now 0 }
 {
     find(card, s, stream(card, s, k), name)

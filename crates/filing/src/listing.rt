@@ -2,12 +2,12 @@
 ghost use Rattle.std.specs.Prelude.{◌≡◌, ◌^◌, ◌<◌, ◌≤◌, IfSome};
 ghost use Rattle.layout.specs.Streams.{data_of, contents};
 ghost use Rattle.layout.specs.Filing.{entries};
-ghost use Rattle.layout.specs.Ranges.{Small};
 ghost use Rattle.filing.specs.Located.{numbered};
 
 use crate::entries::{HEAD, read_head};
 use crate::pages::{PAGE, PIECE, turn};
-use layout::{Desc, Shape};
+use blocks::cut::Cut;
+use layout::Desc;
 
 // An entry: its stream's index, where it starts, its name's length.
 #[derive(Clone, Copy)]
@@ -18,8 +18,8 @@ pub struct Row {
 }
 
 // Entry number `n` of the directory that `t` describes, where there is one.
-pub fn nth_entry(card: &[u8], s: Shape, t: Desc, n: usize) -> Option<Row>
-    requires { Small card.now s × (t.size < 2 ^ 62) }
+pub fn nth_entry(card: &[u8], s: Cut, t: Desc, n: usize) -> Option<Row>
+    requires { (t.size < 2 ^ 62) }
     ensures numbered { result ≡ numbered (entries (contents card.now s t.top (data_of s t) t.size)) n }
     ensures at { IfSome result (λ row. row.at ≤ t.size) }
 {

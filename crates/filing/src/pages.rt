@@ -3,12 +3,12 @@ ghost use Rattle.std.specs.Prelude.{◌≡◌, ◌≤◌, length};
 ghost use Rattle.layout.specs.Bytes.{same};
 ghost use Rattle.layout.specs.Streams.{data_of, contents};
 ghost use Rattle.layout.specs.Filing.{entry_at};
-ghost use Rattle.layout.specs.Ranges.{Small};
 ghost use Rattle.filing.specs.Paged.{Paged, Turned};
 
 use crate::names::name_is;
 use laying::gather::gather_stream;
-use layout::{Desc, Shape};
+use blocks::cut::Cut;
+use layout::Desc;
 
 // The bytes of a page: seven entries with the longest name, or many with short ones.
 pub const PAGE: usize = 512;
@@ -18,8 +18,8 @@ pub const PIECE: usize = 71;
 
 // Turns the page so that the piece at `at` of the directory that `t` describes is on it, and gives where the page then
 // starts: where it did, if the piece is on it already. On a page that starts at the directory's end there is nothing.
-pub fn turn(card: &[u8], s: Shape, t: Desc, page: &mut [u8], from: usize, at: usize) -> usize
-    requires { Small card.now s × Paged page.old from (contents card.now s t.top (data_of s t) t.size) }
+pub fn turn(card: &[u8], s: Cut, t: Desc, page: &mut [u8], from: usize, at: usize) -> usize
+    requires { Paged page.old from (contents card.now s t.top (data_of s t) t.size) }
     ensures { Turned page.new result at (contents card.now s t.top (data_of s t) t.size) }
 {
     if from <= at && at - from <= PAGE - PIECE {
@@ -30,8 +30,8 @@ pub fn turn(card: &[u8], s: Shape, t: Desc, page: &mut [u8], from: usize, at: us
 }
 
 // Whether the entry at `at` of the directory that `t` describes has that name.
-pub fn name_at(card: &[u8], s: Shape, t: Desc, at: usize, name: &[u8]) -> bool
-    requires { Small card.now s × (length name.now ≤ 64) }
+pub fn name_at(card: &[u8], s: Cut, t: Desc, at: usize, name: &[u8]) -> bool
+    requires { (length name.now ≤ 64) }
     ensures { result ≡ same (entry_at (contents card.now s t.top (data_of s t) t.size) at).name name.now }
 {
     let mut piece = [0; PIECE];

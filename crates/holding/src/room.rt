@@ -3,11 +3,12 @@ ghost use Rattle.std.specs.Prelude.{◌≡◌, ◌^◌, ◌<◌, ◌≤◌};
 ghost use Rattle.layout.specs.Streams.{wants};
 
 use blocks::places::fan;
-use layout::{Desc, Shape};
+use blocks::cut::Cut;
+use layout::Desc;
 use pyramids::pyramid::{needed, up};
 
 // The blocks that the stream that `t` describes takes to hold `n` bytes.
-pub fn wants(s: Shape, t: Desc, n: usize) -> usize
+pub fn wants(s: Cut, t: Desc, n: usize) -> usize
     requires { (64 ≤ s.size) × (s.size ≤ 4096) × (n < 2 ^ 62) }
     ensures { (result ≡ wants s t n) × (result < 2 ^ 60) }
 {

@@ -3,17 +3,16 @@ ghost use Rattle.std.specs.Prelude.{◌≡◌, ◌+◌, ◌^◌, ◌<◌, length
 ghost use Rattle.layout.specs.Bytes.{pick};
 ghost use Rattle.layout.specs.Streams.{stream, lengthened};
 ghost use Rattle.layout.specs.Calls.{written_in, truncated_in};
-ghost use Rattle.layout.specs.Ranges.{Small};
 
-use layout::Shape;
+use blocks::cut::Cut;
 use layout::limits::MOST_BLOCKS;
 use stream::descs::stream;
 use stream::inside::lay_in_stream;
 use stream::lengths::{lengthen, shorten};
 
 // Stream `k` is lengthened to `n` bytes where it has fewer.
-fn stretch(card: &mut [u8], s: Shape, k: usize, n: usize)
-    requires { Small card.old s × (k < 2 ^ 56) × (n < 2 ^ 62) }
+fn stretch(card: &mut [u8], s: Cut, k: usize, n: usize)
+    requires { (k < 2 ^ 56) × (n < 2 ^ 62) }
     ensures { card.new ≡ pick (ltb (stream card.old s k).size n) (lengthened card.old s k n) card.old }
 {
     let t = stream(card, s, k);
@@ -23,8 +22,8 @@ fn stretch(card: &mut [u8], s: Shape, k: usize, n: usize)
 }
 
 // The bytes `given` go into stream `k` from place `p` on, which is lengthened where it must be.
-pub fn write(card: &mut [u8], s: Shape, k: usize, p: usize, given: &[u8])
-    requires { Small card.old s × (k < 2 ^ 56) × (p + length given.now < 2 ^ 62) }
+pub fn write(card: &mut [u8], s: Cut, k: usize, p: usize, given: &[u8])
+    requires { (k < 2 ^ 56) × (p + length given.now < 2 ^ 62) }
     ensures { card.new ≡ written_in card.old s k p given.now }
 {
     let n = given.len();
@@ -33,8 +32,8 @@ pub fn write(card: &mut [u8], s: Shape, k: usize, p: usize, given: &[u8])
 }
 
 // Stream `k`'s first `n` bytes are kept.
-pub fn truncate(card: &mut [u8], s: Shape, k: usize, n: usize)
-    requires { Small card.old s × (k < 2 ^ 56) × (n < 2 ^ 62) }
+pub fn truncate(card: &mut [u8], s: Cut, k: usize, n: usize)
+    requires { (k < 2 ^ 56) × (n < 2 ^ 62) }
     ensures { card.new ≡ truncated_in card.old s k n }
 {
     let t = stream(card, s, k);

@@ -3,19 +3,19 @@ ghost use Rattle.std.specs.Prelude.{◌≡◌, ℕ, ◌+◌, ◌*◌, ◌^◌, �
 ghost use Rattle.layout.specs.Bytes.{over, window};
 ghost use Rattle.layout.specs.Blocks.{place, slot, node};
 ghost use Rattle.layout.specs.Streams.{data_of, contents};
-ghost use Rattle.layout.specs.Ranges.{Small};
 ghost use Rattle.laying.specs.Gathered.{gathered};
 
 use crate::levels::levels;
 use crate::parts::piece_in;
 use blocks::places::{place, slot};
 use blocks::reader::node;
-use layout::{Desc, Shape};
+use blocks::cut::Cut;
+use layout::Desc;
 use memory::runs::fetch;
 
 // `n` bytes of block `b` from its byte `r` on go to `tray` from `at` on.
-fn gather_block(card: &[u8], s: Shape, b: usize, r: usize, tray: &mut [u8], at: usize, n: usize)
-    requires { Small card.now s × (r ≤ 4096) × (at + n ≤ length tray.old) }
+fn gather_block(card: &[u8], s: Cut, b: usize, r: usize, tray: &mut [u8], at: usize, n: usize)
+    requires { (r ≤ 4096) × (at + n ≤ length tray.old) }
     ensures { tray.new ≡ over tray.old at (window card.now (place s b + r) n) }
 {
     fetch(tray, at, &*card, place(s, b) + r, n);
@@ -24,7 +24,7 @@ fn gather_block(card: &[u8], s: Shape, b: usize, r: usize, tray: &mut [u8], at: 
 // `n` bytes from place `p` on go to `tray` from `at` on, out of the blocks that `block` names one after the other.
 fn gather_blocks<F: Fn(usize) -> usize>(
     card: &[u8],
-    s: Shape,
+    s: Cut,
     block: F,
     p: usize,
     tray: &mut [u8],
@@ -45,7 +45,7 @@ fn gather_blocks<F: Fn(usize) -> usize>(
 // The same of a stream with redirectors: the blocks below each block of level 1 in turn.
 fn gather_rows(
     card: &[u8],
-    s: Shape,
+    s: Cut,
     top: usize,
     h: usize,
     p: usize,
@@ -53,7 +53,7 @@ fn gather_rows(
     at: usize,
     n: usize,
 )
-    requires { Small card.now s × (0 < h) × (at + n ≤ length tray.old) × (p + n < 2 ^ 64) }
+    requires { (0 < h) × (at + n ≤ length tray.old) × (p + n < 2 ^ 64) }
     ensures { tray.new ≡ over tray.old at (gathered card.now s (node card.now s top h) p n) }
 {
     let row = s.size / 4 * s.size;
@@ -66,8 +66,7 @@ fn gather_rows(
 }
 
 // What the stream that `t` describes has from place `p` on, `n` bytes at most, goes to `tray` from `at` on.
-pub fn gather_stream(card: &[u8], s: Shape, t: Desc, p: usize, tray: &mut [u8], at: usize, n: usize)
-    requires { Small card.now s }
+pub fn gather_stream(card: &[u8], s: Cut, t: Desc, p: usize, tray: &mut [u8], at: usize, n: usize)
     ensures { tray.new ≡ over tray.old at (take n (drop p (contents card.now s t.top (data_of s t) t.size))) }
 {
     let there = t.size.saturating_sub(p);

@@ -3,18 +3,18 @@ ghost use Rattle.std.specs.Prelude.{◌≡◌, ◌+◌, ◌/◌, ◌%◌, ◌^�
 ghost use Rattle.layout.specs.Bytes.{over};
 ghost use Rattle.layout.specs.Blocks.{place};
 ghost use Rattle.layout.specs.Streams.{data_of, tall, laid_row, laid};
-ghost use Rattle.layout.specs.Ranges.{Small};
 
 use crate::levels::levels;
 use crate::parts::piece_in;
 use blocks::places::{place, slot};
 use blocks::reader::node;
-use layout::{Desc, Shape};
+use blocks::cut::Cut;
+use layout::Desc;
 use memory::runs::copy;
 
 // `n` bytes of `given` from `from` on go into block `b` from its byte `r` on.
-fn lay_block(card: &mut [u8], s: Shape, b: usize, r: usize, given: &[u8], from: usize, n: usize)
-    requires { Small card.old s × (r < 2 ^ 62) }
+fn lay_block(card: &mut [u8], s: Cut, b: usize, r: usize, given: &[u8], from: usize, n: usize)
+    requires { (r < 2 ^ 62) }
     ensures { card.new ≡ over card.old (place s b + r) (take n (drop from given.now)) }
 {
     let at = place(s, b) + r;
@@ -22,8 +22,8 @@ fn lay_block(card: &mut [u8], s: Shape, b: usize, r: usize, given: &[u8], from: 
 }
 
 // `n` bytes of `given` from `from` on go into the blocks that the slots of block `b` name, from place `p` of these on.
-fn lay_row(card: &mut [u8], s: Shape, b: usize, p: usize, given: &[u8], from: usize, n: usize)
-    requires { Small card.old s × (p + n ≤ 4294967296) × (from + n ≤ length given.now) }
+fn lay_row(card: &mut [u8], s: Cut, b: usize, p: usize, given: &[u8], from: usize, n: usize)
+    requires { (p + n ≤ 4294967296) × (from + n ≤ length given.now) }
     ensures { card.new ≡ laid_row n card.old s b (p / s.size) (p % s.size) (take n (drop from given.now)) }
 {
     let size = s.size;
@@ -37,7 +37,7 @@ fn lay_row(card: &mut [u8], s: Shape, b: usize, p: usize, given: &[u8], from: us
 // `n` bytes of `given` from `from` on go into a stream of height `h` from its place `p` on.
 pub fn lay(
     card: &mut [u8],
-    s: Shape,
+    s: Cut,
     top: usize,
     h: usize,
     p: usize,
@@ -45,7 +45,7 @@ pub fn lay(
     from: usize,
     n: usize,
 )
-    requires { Small card.old s × (p < 2 ^ 62) × (n < 2 ^ 62) × (from + n ≤ length given.now) }
+    requires { (p < 2 ^ 62) × (n < 2 ^ 62) × (from + n ≤ length given.now) }
     ensures { card.new ≡ laid card.old s top h p (take n (drop from given.now)) }
 {
     if h == 0 {
@@ -61,8 +61,8 @@ pub fn lay(
 }
 
 // The same into the stream that `t` describes.
-pub fn lay_stream(card: &mut [u8], s: Shape, t: Desc, p: usize, given: &[u8], from: usize, n: usize)
-    requires { Small card.old s × (p < 2 ^ 62) × (n < 2 ^ 62) × (from + n ≤ length given.now) }
+pub fn lay_stream(card: &mut [u8], s: Cut, t: Desc, p: usize, given: &[u8], from: usize, n: usize)
+    requires { (p < 2 ^ 62) × (n < 2 ^ 62) × (from + n ≤ length given.now) }
     ensures { card.new ≡ laid card.old s t.top (tall s (data_of s t)) p (take n (drop from given.now)) }
 {
     lay(card, s, t.top, levels(s, t), p, &*given, from, n);

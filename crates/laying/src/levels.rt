@@ -2,11 +2,12 @@
 ghost use Rattle.std.specs.Prelude.{◌≡◌, ◌≤◌};
 ghost use Rattle.layout.specs.Streams.{data_of, tall};
 
-use layout::{Desc, Shape};
+use blocks::cut::Cut;
+use layout::Desc;
 use pyramids::pyramid::height;
 
 // How high the pyramid of the stream is that `t` describes.
-pub(crate) fn levels(s: Shape, t: Desc) -> usize
+pub(crate) fn levels(s: Cut, t: Desc) -> usize
     requires { 64 ≤ s.size }
     ensures { result ≡ tall s (data_of s t) }
 {

@@ -2,14 +2,14 @@
 ghost use Rattle.std.specs.Prelude.{◌≡◌, ◌≢◌, ◌+◌, ◌-◌, ◌<◌, ◌≤◌, length};
 ghost use Rattle.layout.specs.Bytes.{pick};
 ghost use Rattle.layout.specs.Filing.{name_length, entries, distinct_names};
-ghost use Rattle.layout.specs.Ranges.{Small};
 ghost use Rattle.filing.specs.Paged.{piece_at};
 ghost use Rattle.naming.specs.Buckets.{bucket_of, name_at, among, Linked, Filed};
 ghost use Rattle.naming.specs.Rooted.{bytes_of, Tidy, Here};
 
 use filing::entries::read_head;
 use filing::pages::{PAGE, PIECE, name_at, turn};
-use layout::{Desc, Shape};
+use blocks::cut::Cut;
+use layout::Desc;
 
 // The buckets, and the numbers that mix a name's bytes into one.
 const BUCKETS: usize = 1024;
@@ -54,8 +54,8 @@ fn bucket(name: &[u8]) -> usize
 
 impl Buckets {
     // Whether one of the first `x` entries has that name, where the last of them is in its bucket.
-    fn met(&self, card: &[u8], s: Shape, t: Desc, x: u16, name: &[u8]) -> bool
-        requires { Small card.now s × (length name.now ≤ 64) × (x ≤ 256) × (x ≤ length (entries (bytes_of card.now s t))) × (length self.now.links ≡ 256) × Linked (entries (bytes_of card.now s t)) x self.now.links × (x ≢ 0 → bucket_of (name_at (entries (bytes_of card.now s t)) (x - 1)) ≡ bucket_of name.now) }
+    fn met(&self, card: &[u8], s: Cut, t: Desc, x: u16, name: &[u8]) -> bool
+        requires { (length name.now ≤ 64) × (x ≤ 256) × (x ≤ length (entries (bytes_of card.now s t))) × (length self.now.links ≡ 256) × Linked (entries (bytes_of card.now s t)) x self.now.links × (x ≢ 0 → bucket_of (name_at (entries (bytes_of card.now s t)) (x - 1)) ≡ bucket_of name.now) }
         ensures { result ≡ among (entries (bytes_of card.now s t)) x name.now }
     {
         let mut left = x;
@@ -74,13 +74,13 @@ impl Buckets {
     fn file(
         &mut self,
         card: &[u8],
-        s: Shape,
+        s: Cut,
         t: Desc,
         piece: &[u8],
         at: usize,
         i: usize,
     ) -> Option<usize>
-        requires { Small card.now s × Here (bytes_of card.now s t) at i × (piece.now ≡ piece_at (bytes_of card.now s t) at) × Filed (entries (bytes_of card.now s t)) i self.old }
+        requires { Here (bytes_of card.now s t) at i × (piece.now ≡ piece_at (bytes_of card.now s t) at) × Filed (entries (bytes_of card.now s t)) i self.old }
         ensures { (result ≡ pick (among (entries (bytes_of card.now s t)) i (name_at (entries (bytes_of card.now s t)) i)) None (Some (name_length (bytes_of card.now s t) at))) × (result ≢ None → Filed (entries (bytes_of card.now s t)) (i + 1) self.new) }
     {
         let n = read_head(piece).length;
@@ -101,8 +101,8 @@ impl Buckets {
 
 // Whether no name stands twice in the directory that `t` describes: its entries are filed one after the other, up to the
 // first whose name was met.
-pub fn names_apart(card: &[u8], s: Shape, t: Desc) -> bool
-    requires { Small card.now s × Tidy (bytes_of card.now s t) }
+pub fn names_apart(card: &[u8], s: Cut, t: Desc) -> bool
+    requires { Tidy (bytes_of card.now s t) }
     ensures { result ≡ distinct_names (entries (bytes_of card.now s t)) }
 {
     let none = Link {

@@ -2,11 +2,10 @@
 ghost use Rattle.std.specs.Prelude.{◌≡◌, ◌≤◌, length, replicate};
 ghost use Rattle.layout.specs.Limits.{most_blocks};
 ghost use Rattle.layout.specs.Sound.{broken};
-ghost use Rattle.layout.specs.Ranges.{Small};
 ghost use Rattle.sound.specs.Lowest.{verdict_in, rule_in, free_in, free_of};
 
 use heading::header::{rule1, rule2, rule3, shape};
-use layout::Shape;
+use blocks::cut::Cut;
 use layout::answers::Rule;
 use layout::limits::MOST_BLOCKS;
 use naming::root::rule8;
@@ -19,8 +18,8 @@ use usage::used::rule6;
 const LONGEST_TABLE: usize = 6408;
 
 // Rules 4 to 8. The page and the marks are lent for the work.
-fn check_shaped(card: &[u8], s: Shape, tab: &mut [u8], marks: &mut [u8]) -> Result<usize, Rule>
-    requires { Small card.now s × (tab.old ≡ replicate 6408 0) × (most_blocks ≤ length marks.old) }
+fn check_shaped(card: &[u8], s: Cut, tab: &mut [u8], marks: &mut [u8]) -> Result<usize, Rule>
+    requires { (tab.old ≡ replicate 6408 0) × (most_blocks ≤ length marks.old) }
     ensures { result ≡ verdict_in card.now s }
 {
     if !rule4(&*card, s, marks) {

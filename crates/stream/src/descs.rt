@@ -2,11 +2,11 @@
 ghost use Rattle.std.specs.Prelude.{◌≡◌, ◌+◌, ◌*◌, ◌^◌, ◌<◌};
 ghost use Rattle.layout.specs.Bytes.{over};
 ghost use Rattle.layout.specs.Streams.{desc_in, fields, table, table_bytes, table_set, offset, slots, stream, desc_set};
-ghost use Rattle.layout.specs.Ranges.{Small};
 
 use crate::inside::lay_in_table;
 use laying::gather::gather_stream;
-use layout::{Desc, Shape};
+use blocks::cut::Cut;
+use layout::Desc;
 use memory::bytes::{byte, number, put_number};
 
 // The descriptor in the 25 bytes at `at`.
@@ -23,7 +23,7 @@ pub fn descriptor(card: &[u8], at: usize) -> Desc
 }
 
 // Its first three fields, at `at`.
-fn put_fields(card: &mut [u8], s: Shape, at: usize, size: usize, top: usize, d: usize)
+fn put_fields(card: &mut [u8], s: Cut, at: usize, size: usize, top: usize, d: usize)
     requires { (at + 25 < 2 ^ 64) × (d * s.size < 2 ^ 64) }
     ensures { card.new ≡ over card.old at (fields s size top d) }
 {
@@ -33,24 +33,22 @@ fn put_fields(card: &mut [u8], s: Shape, at: usize, size: usize, top: usize, d: 
 }
 
 // The table's own descriptor.
-pub fn table(card: &[u8], s: Shape) -> Desc
-    requires { Small card.now s }
+pub fn table(card: &[u8], s: Cut) -> Desc
     ensures { result ≡ table card.now s }
 {
     descriptor(card, s.table)
 }
 
 // How many descriptors the table has.
-pub fn descriptors(card: &[u8], s: Shape) -> usize
-    requires { Small card.now s }
+pub fn descriptors(card: &[u8], s: Cut) -> usize
     ensures { result ≡ slots (table_bytes card.now s) }
 {
     table(card, s).size.saturating_sub(8) / 25
 }
 
 // The table's own descriptor, set.
-pub fn set_table(card: &mut [u8], s: Shape, size: usize, top: usize, d: usize)
-    requires { Small card.old s × (d * s.size < 2 ^ 64) }
+pub fn set_table(card: &mut [u8], s: Cut, size: usize, top: usize, d: usize)
+    requires { (d * s.size < 2 ^ 64) }
     ensures { card.new ≡ table_set card.old s size top d }
 {
     put_fields(card, s, s.table, size, top, d);
@@ -65,8 +63,8 @@ fn offset(k: usize) -> usize
 }
 
 // Stream `k`'s descriptor; zeros past the table's end.
-pub fn stream(card: &[u8], s: Shape, k: usize) -> Desc
-    requires { Small card.now s × (k < 2 ^ 56) }
+pub fn stream(card: &[u8], s: Cut, k: usize) -> Desc
+    requires { (k < 2 ^ 56) }
     ensures { result ≡ stream card.now s k }
 {
     let mut page = [0; 25];
@@ -75,8 +73,8 @@ pub fn stream(card: &[u8], s: Shape, k: usize) -> Desc
 }
 
 // Stream `k`'s descriptor, set; its flags stay.
-pub fn set_stream(card: &mut [u8], s: Shape, k: usize, size: usize, top: usize, d: usize)
-    requires { Small card.old s × (k < 2 ^ 56) × (d * s.size < 2 ^ 64) }
+pub fn set_stream(card: &mut [u8], s: Cut, k: usize, size: usize, top: usize, d: usize)
+    requires { (k < 2 ^ 56) × (d * s.size < 2 ^ 64) }
     ensures { card.new ≡ desc_set card.old s k size top d }
 {
     let mut page = [0; 24];

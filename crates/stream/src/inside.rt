@@ -2,17 +2,15 @@
 ghost use Rattle.std.specs.Prelude.{◌≡◌, ◌^◌, ◌<◌, ◌≤◌, length, take};
 ghost use Rattle.layout.specs.Bytes.{num, bytes};
 ghost use Rattle.layout.specs.Streams.{table_bytes, in_table, in_stream};
-ghost use Rattle.layout.specs.Ranges.{Small};
 
 use crate::descs::{stream, table};
 use laying::gather::gather_stream;
 use laying::lay::lay_stream;
-use layout::Shape;
+use blocks::cut::Cut;
 use memory::bytes::{number, put_number};
 
 // The number in the 8 bytes at `at` of the table.
-pub fn table_number(card: &[u8], s: Shape, at: usize) -> usize
-    requires { Small card.now s }
+pub fn table_number(card: &[u8], s: Cut, at: usize) -> usize
     ensures { result ≡ num 8 (table_bytes card.now s) at }
 {
     let mut page = [0; 8];
@@ -21,24 +19,24 @@ pub fn table_number(card: &[u8], s: Shape, at: usize) -> usize
 }
 
 // The bytes `given` go into the table from place `p` on.
-pub fn lay_in_table(card: &mut [u8], s: Shape, p: usize, given: &[u8])
-    requires { Small card.old s × (p < 2 ^ 62) × (length given.now < 2 ^ 62) }
+pub fn lay_in_table(card: &mut [u8], s: Cut, p: usize, given: &[u8])
+    requires { (p < 2 ^ 62) × (length given.now < 2 ^ 62) }
     ensures { card.new ≡ in_table card.old s p given.now }
 {
     lay_stream(card, s, table(card, s), p, given, 0, given.len());
 }
 
 // The first `n` bytes of `given` go into stream `k` from place `p` on.
-pub fn lay_in_stream(card: &mut [u8], s: Shape, k: usize, p: usize, given: &[u8], n: usize)
-    requires { Small card.old s × (k < 2 ^ 56) × (p < 2 ^ 62) × (n < 2 ^ 62) × (n ≤ length given.now) }
+pub fn lay_in_stream(card: &mut [u8], s: Cut, k: usize, p: usize, given: &[u8], n: usize)
+    requires { (k < 2 ^ 56) × (p < 2 ^ 62) × (n < 2 ^ 62) × (n ≤ length given.now) }
     ensures { card.new ≡ in_stream card.old s k p (take n given.now) }
 {
     lay_stream(card, s, stream(card, s, k), p, given, 0, n);
 }
 
 // The number `v` goes into the table's 8 bytes at `p`.
-pub fn put_table_number(card: &mut [u8], s: Shape, p: usize, v: usize)
-    requires { Small card.old s × (p < 2 ^ 62) }
+pub fn put_table_number(card: &mut [u8], s: Cut, p: usize, v: usize)
+    requires { (p < 2 ^ 62) }
     ensures { card.new ≡ in_table card.old s p (bytes 8 v) }
 {
     let mut page = [0; 8];

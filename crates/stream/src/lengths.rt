@@ -1,11 +1,11 @@
 // Streams made longer and shorter.
 ghost use Rattle.std.specs.Prelude.{◌≡◌, ◌+◌, ◌^◌, ◌<◌, ◌≤◌, length};
 ghost use Rattle.layout.specs.Streams.{data_at, grown_for, table, lengthened, table_lengthened, shortened};
-ghost use Rattle.layout.specs.Ranges.{Small};
 
 use crate::descs::{set_stream, set_table, stream, table};
 use blocks::growth::{grow, lowered_top};
-use layout::{Desc, Shape};
+use blocks::cut::Cut;
+use layout::Desc;
 use marking::marks::release;
 use pyramids::pyramid::up;
 
@@ -17,8 +17,8 @@ struct Body {
 }
 
 // The stream that `t` describes gets the blocks that it wants to hold `n` bytes.
-fn grow_for(card: &mut [u8], s: Shape, t: Desc, n: usize) -> Body
-    requires { Small card.old s × (n < 2 ^ 62) }
+fn grow_for(card: &mut [u8], s: Cut, t: Desc, n: usize) -> Body
+    requires { (n < 2 ^ 62) }
     ensures { (card.new ≡ (grown_for card.old s t n).card) × (result.top ≡ (grown_for card.old s t n).top) × (result.d ≡ data_at s t n) }
 {
     let d = t.reserved / s.size;
@@ -30,8 +30,8 @@ fn grow_for(card: &mut [u8], s: Shape, t: Desc, n: usize) -> Body
 }
 
 // Stream `k`, `n` bytes long, at least as long as before.
-pub fn lengthen(card: &mut [u8], s: Shape, k: usize, n: usize)
-    requires { Small card.old s × (k < 2 ^ 56) × (n < 2 ^ 62) }
+pub fn lengthen(card: &mut [u8], s: Cut, k: usize, n: usize)
+    requires { (k < 2 ^ 56) × (n < 2 ^ 62) }
     ensures { card.new ≡ lengthened card.old s k n }
 {
     let t = stream(card, s, k);
@@ -40,8 +40,8 @@ pub fn lengthen(card: &mut [u8], s: Shape, k: usize, n: usize)
 }
 
 // The table, one descriptor longer.
-pub fn lengthen_table(card: &mut [u8], s: Shape)
-    requires { Small card.old s × ((table card.old s).size < 2 ^ 61) }
+pub fn lengthen_table(card: &mut [u8], s: Cut)
+    requires { ((table card.old s).size < 2 ^ 61) }
     ensures { card.new ≡ table_lengthened card.old s }
 {
     let t = table(card, s);
@@ -51,8 +51,8 @@ pub fn lengthen_table(card: &mut [u8], s: Shape)
 }
 
 // Stream `k`, its first `n` bytes: what it no longer needs is given back. The marks are lent for the work.
-pub fn shorten(card: &mut [u8], s: Shape, k: usize, n: usize, marks: &mut [u8])
-    requires { Small card.old s × (k < 2 ^ 56) × (n < 2 ^ 62) × (s.count ≤ length marks.old) }
+pub fn shorten(card: &mut [u8], s: Cut, k: usize, n: usize, marks: &mut [u8])
+    requires { (k < 2 ^ 56) × (n < 2 ^ 62) × (s.count ≤ length marks.old) }
     ensures { card.new ≡ shortened card.old s k n }
 {
     let t = stream(card, s, k);

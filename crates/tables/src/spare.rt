@@ -5,7 +5,6 @@ ghost use Rattle.layout.specs.Bytes.{end8, run, all_b};
 ghost use Rattle.layout.specs.Marks.{mark_ok, mark_set};
 ghost use Rattle.layout.specs.Streams.{dead, table_bytes};
 ghost use Rattle.layout.specs.Sound.{rule4, rule5};
-ghost use Rattle.layout.specs.Ranges.{Small};
 ghost use Rattle.tables.specs.Compared.{right_mark, asked, number_at, spares};
 ghost use Rattle.tables.specs.OnPage.{Reads};
 
@@ -13,7 +12,7 @@ use crate::forms::{LENGTH, START, good_forms};
 use crate::table::LONGEST;
 use blocks::chain::END8;
 use laying::gather::gather_stream;
-use layout::Shape;
+use blocks::cut::Cut;
 use marking::marks::mark;
 use memory::bytes::{byte, number};
 use memory::runs::clear;
@@ -92,8 +91,8 @@ pub fn right_marks(tab: &[u8], alive: bool, n: usize, marks: &[u8]) -> bool
 
 // Rule 5: every descriptor is well formed, the chain has the free ones, each once, and descriptor 0 is not one of them. The
 // table is read onto a page, where the later rules find it; the marks are lent for the work.
-pub fn rule5(card: &[u8], s: Shape, tab: &mut [u8], marks: &mut [u8]) -> bool
-    requires { Small card.now s × (rule4 card.now s ≡ true) × (tab.old ≡ replicate 6408 0) × (most_streams ≤ length marks.old) }
+pub fn rule5(card: &[u8], s: Cut, tab: &mut [u8], marks: &mut [u8]) -> bool
+    requires { (rule4 card.now s ≡ true) × (tab.old ≡ replicate 6408 0) × (most_streams ≤ length marks.old) }
     ensures { (result ≡ rule5 card.now s) × Reads tab.new (table_bytes card.now s) }
 {
     let n = descriptors(card, s);

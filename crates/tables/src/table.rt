@@ -1,10 +1,9 @@
 // Rule 4: the table's own descriptor, and its blocks.
 ghost use Rattle.std.specs.Prelude.{◌≡◌, ◌≤◌, length};
-ghost use Rattle.layout.specs.Ranges.{Small};
 ghost use Rattle.layout.specs.Sound.{rule4};
 
 use crate::forms::{LENGTH, START, right_desc};
-use layout::Shape;
+use blocks::cut::Cut;
 use marking::marks::mark_surplus;
 use memory::runs::clear;
 use stream::descs::table;
@@ -16,8 +15,8 @@ pub const LONGEST: usize = 6408;
 
 // Rule 4: the table has 1 to 256 whole descriptors, its own descriptor is right, and its blocks are apart. The marks are
 // lent for the work.
-pub fn rule4(card: &[u8], s: Shape, marks: &mut [u8]) -> bool
-    requires { Small card.now s × (s.count ≤ length marks.old) }
+pub fn rule4(card: &[u8], s: Cut, marks: &mut [u8]) -> bool
+    requires { (s.count ≤ length marks.old) }
     ensures { result ≡ rule4 card.now s }
 {
     let t = table(card, s);

@@ -1,9 +1,11 @@
 -- `blocks::chain::take_block` keeps its promise.
-use Rattle.layout.specs.Blocks.{taken}
+use Rattle.std.proofs.Common.{rules, ap, arith}
 use Rattle.blocks.proofs.Near.{taken_is}
-use borrow.Author.Rules.{rules}
 use Rattle.blocks.proofs.chain.take_block.Goals as goal
 
 pub returns : goal.returns
-unfolding taken
-returns c = (search rules, taken_is _ _ c.requires c.first_free-b.ensures c.next-after.ensures c.place.ensures.0 c.clear.ensures c.put_number.ensures)
+returns c = (
+  search rules,
+  taken_is c.args.card.now c.args.s (omega arith) c.first_free-b.ensures c.next-after.ensures c.start.ensures (rw (ap (λ s. s.size) c.s.view_is) at c.clear.ensures)
+      (rw (ap (λ s. s.first) c.s.view_is) at c.put_number.ensures),
+)

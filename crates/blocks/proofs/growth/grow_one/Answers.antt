@@ -3,7 +3,7 @@ use Rattle.std.proofs.Common.{arith}
 use Rattle.std.proofs.lemmas.Grind.{common_steps}
 use native.Mathlib.Nat.{pos_of_ne-zero}
 use Rattle.layout.specs.Blocks.{grown_one, raised}
-use Rattle.blocks.proofs.Near.{fan_two, small_same}
+use Rattle.blocks.proofs.Near.{fan_two}
 use Rattle.blocks.proofs.Growing.{grown-more, tall-some}
 use Rattle.blocks.proofs.growth.grow_one.Goals as goal
 use Rattle.blocks.proofs.growth.grow_one.Goals.{then-before-after, else-before-after}
@@ -13,7 +13,7 @@ unfolding grown_one
 returns-then-d-eq0 c = grind (arith, common_steps)
 
 pub root-requires : goal.root-requires
-root-requires c = (small_same c.requires.0 c.if-before-after.auto.card, tall-some _ (fan_two _ c.requires.0.least) _ _ (pos_of_ne-zero c.if-d-eq0.false) c.requires.2)
+root-requires c = tall-some _ (fan_two c.args.s.size (omega arith)) _ _ (pos_of_ne-zero c.if-d-eq0.false) c.requires.1
 
 pub returns : goal.returns
 unfolding raised

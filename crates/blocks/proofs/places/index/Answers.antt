@@ -1,11 +1,9 @@
 -- `blocks::places::index` keeps its promise.
-use mathlib.Core.Path.{◌≡◌, ◌∙◌}
-use Prim.Native.Nat.{min}
-use native.Mathlib.Omega.{arith}
-use Rattle.blocks.proofs.Near.{cap, num-near}
+use Rattle.std.proofs.Common.{◌∙◌, ◌+◌, ◌*◌, arith}
+use Rattle.blocks.proofs.Near.{num-near}
 use Rattle.blocks.proofs.places.index.Goals as goal
 
 pub returns : goal.returns
 returns c =
-    let m : c.min.result ≡ min c.args.b cap = omega arith in
-    (c.number.ensures.0 ∙ rw m (num-near c.args.card.now c.args.base c.args.size c.requires.4 (omega arith) 4 c.args.b _), c.number.ensures.1)
+    let at = c.args.base + c.args.b * c.args.size + 4 * c.args.j in
+    (c.number.ensures.0 ∙ num-near c.args.card.now (omega arith) at _ (omega arith) 4, c.number.ensures.1)
