@@ -6,7 +6,7 @@ use Rattle.tables.proofs.Shaped.{rule4_is}
 use Rattle.tables.proofs.table.rule4.Goals as goal
 
 pub returns-then-not-whole : goal.returns-then-not-whole
-returns-then-not-whole c = let e = rule4_is _ _ _ c.table-t.ensures c.args.marks.now _ c.requires.1 refl in grind (arith, common_steps)
+returns-then-not-whole c = let e = rule4_is _ _ _ c.table-t.ensures c.args.marks.now _ c.requires refl in grind (arith, common_steps)
 
 pub returns : goal.returns
-returns c = let e = rule4_is _ _ _ c.table-t.ensures _ _ c.requires.1 c.clear.ensures in grind (arith, common_steps)
+returns c = let e = rule4_is _ _ _ c.table-t.ensures _ _ c.requires c.clear.ensures in grind (arith, common_steps)
