@@ -7,10 +7,10 @@ ghost use Rattle.acts.specs.Fits.{Fits};
 ghost use Rattle.acts.specs.Full.{full_table};
 
 use blocks::chain::END8;
+use blocks::cut::Cut;
 use filing::edits::append;
 use holding::read::size;
 use holding::room::wants;
-use blocks::cut::Cut;
 use layout::limits::most_streams;
 use stream::descs::{descriptors, stream, table};
 use stream::inside::{lay_in_table, put_table_number, table_number};
@@ -41,7 +41,7 @@ pub fn full(card: &[u8], s: Cut) -> bool
 
 // The free descriptor at `first` comes off the chain and becomes all zero.
 fn reuse_descriptor(card: &mut [u8], s: Cut, first: usize)
-    requires { (first < 2 ^ 61) }
+    requires { first < 2 ^ 61 }
     ensures { card.new ≡ in_table (in_table card.old s 0 (bytes 8 (num 8 (table_bytes card.old s) first))) s first (replicate 25 0) }
 {
     let after = table_number(card, s, first);
@@ -51,7 +51,7 @@ fn reuse_descriptor(card: &mut [u8], s: Cut, first: usize)
 
 // One descriptor more at the table's end, all zero.
 fn add_descriptor(card: &mut [u8], s: Cut)
-    requires { ((table card.old s).size < 2 ^ 61) }
+    requires { (table card.old s).size < 2 ^ 61 }
     ensures { card.new ≡ in_table (table_lengthened card.old s) s (offset (slots (table_bytes card.old s))) (replicate 25 0) }
 {
     let n = descriptors(card, s);

@@ -6,8 +6,8 @@ ghost use Rattle.acts.specs.Deleted.{deleted_at};
 
 use crate::create::{FIRST_PLACE, LENGTH};
 use blocks::chain::END8;
-use filing::edits::remove;
 use blocks::cut::Cut;
+use filing::edits::remove;
 use layout::limits::MOST_BLOCKS;
 use memory::bytes::put_number;
 use stream::inside::{lay_in_table, put_table_number, table_number};

@@ -5,9 +5,9 @@ ghost use Rattle.layout.specs.Streams.{stream};
 ghost use Rattle.layout.specs.Filing.{entries_of, nothing};
 ghost use Rattle.filing.specs.Located.{numbered};
 
+use blocks::cut::Cut;
 use filing::listing::{Row, nth_entry};
 use laying::gather::gather_stream;
-use blocks::cut::Cut;
 use stream::descs::stream;
 
 // Entry number `n` of directory `k`; where there is one, its name goes into the tray.

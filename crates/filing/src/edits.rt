@@ -6,9 +6,9 @@ ghost use Rattle.layout.specs.Filing.{entry_bytes};
 ghost use Rattle.filing.specs.Edited.{entered, moved, drawn, removed};
 
 use crate::entries::HEAD;
+use blocks::cut::Cut;
 use laying::gather::gather_stream;
 use laying::lay::lay_stream;
-use blocks::cut::Cut;
 use layout::Desc;
 use memory::bytes::put_number;
 use memory::runs::copy;

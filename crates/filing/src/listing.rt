@@ -19,7 +19,7 @@ pub struct Row {
 
 // Entry number `n` of the directory that `t` describes, where there is one.
 pub fn nth_entry(card: &[u8], s: Cut, t: Desc, n: usize) -> Option<Row>
-    requires { (t.size < 2 ^ 62) }
+    requires { t.size < 2 ^ 62 }
     ensures numbered { result ≡ numbered (entries (contents card.now s t.top (data_of s t) t.size)) n }
     ensures at { IfSome result (λ row. row.at ≤ t.size) }
 {

@@ -6,8 +6,8 @@ ghost use Rattle.layout.specs.Filing.{entry_at};
 ghost use Rattle.filing.specs.Paged.{Paged, Turned};
 
 use crate::names::name_is;
-use laying::gather::gather_stream;
 use blocks::cut::Cut;
+use laying::gather::gather_stream;
 use layout::Desc;
 
 // The bytes of a page: seven entries with the longest name, or many with short ones.
@@ -31,7 +31,7 @@ pub fn turn(card: &[u8], s: Cut, t: Desc, page: &mut [u8], from: usize, at: usiz
 
 // Whether the entry at `at` of the directory that `t` describes has that name.
 pub fn name_at(card: &[u8], s: Cut, t: Desc, at: usize, name: &[u8]) -> bool
-    requires { (length name.now ≤ 64) }
+    requires { length name.now ≤ 64 }
     ensures { result ≡ same (entry_at (contents card.now s t.top (data_of s t) t.size) at).name name.now }
 {
     let mut piece = [0; PIECE];

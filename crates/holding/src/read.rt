@@ -3,13 +3,13 @@ ghost use Rattle.std.specs.Prelude.{◌≡◌, ◌^◌, ◌<◌, length, take, d
 ghost use Rattle.layout.specs.Bytes.{over};
 ghost use Rattle.layout.specs.Streams.{stream, stream_bytes};
 
-use laying::gather::gather_stream;
 use blocks::cut::Cut;
+use laying::gather::gather_stream;
 use stream::descs::stream;
 
 // Stream `k`'s size.
 pub fn size(card: &[u8], s: Cut, k: usize) -> usize
-    requires { (k < 2 ^ 56) }
+    requires { k < 2 ^ 56 }
     ensures { result ≡ (stream card.now s k).size }
 {
     stream(card, s, k).size
@@ -17,7 +17,7 @@ pub fn size(card: &[u8], s: Cut, k: usize) -> usize
 
 // What stream `k` has from place `p` on goes into the tray, as far as both go; answers how many bytes.
 pub fn read(card: &[u8], s: Cut, k: usize, p: usize, tray: &mut [u8]) -> usize
-    requires { (k < 2 ^ 56) }
+    requires { k < 2 ^ 56 }
     ensures { (result ≡ length (take (length tray.old) (drop p (stream_bytes card.now s k)))) × (tray.new ≡ over tray.old 0 (take (length tray.old) (drop p (stream_bytes card.now s k)))) }
 {
     let t = stream(card, s, k);

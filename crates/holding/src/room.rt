@@ -2,8 +2,8 @@
 ghost use Rattle.std.specs.Prelude.{◌≡◌, ◌^◌, ◌<◌, ◌≤◌};
 ghost use Rattle.layout.specs.Streams.{wants};
 
-use blocks::places::fan;
 use blocks::cut::Cut;
+use blocks::places::fan;
 use layout::Desc;
 use pyramids::pyramid::{needed, up};
 

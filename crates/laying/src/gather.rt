@@ -6,43 +6,53 @@ ghost use Rattle.layout.specs.Streams.{data_of, contents};
 ghost use Rattle.laying.specs.Gathered.{gathered};
 
 use crate::levels::levels;
-use crate::parts::piece_in;
-use blocks::places::{place, slot};
-use blocks::reader::node;
 use blocks::cut::Cut;
+use blocks::places::{fan, slot, start};
+use blocks::reader::node;
 use layout::Desc;
 use memory::runs::fetch;
 
 // `n` bytes of block `b` from its byte `r` on go to `tray` from `at` on.
 fn gather_block(card: &[u8], s: Cut, b: usize, r: usize, tray: &mut [u8], at: usize, n: usize)
-    requires { (r ≤ 4096) × (at + n ≤ length tray.old) }
+    requires { at + n ≤ length tray.old }
     ensures { tray.new ≡ over tray.old at (window card.now (place s b + r) n) }
 {
-    fetch(tray, at, &*card, place(s, b) + r, n);
+    fetch(tray, at, &*card, start(s, b).saturating_add(r), n);
 }
 
-// `n` bytes from place `p` on go to `tray` from `at` on, out of the blocks that `block` names one after the other.
+// `n` bytes go to `tray` from `at` on, out of the blocks that `block` names by their numbers, from byte `r` of block `i` on.
 fn gather_blocks<F: Fn(usize) -> usize>(
     card: &[u8],
     s: Cut,
     block: F,
-    p: usize,
+    i: usize,
+    r: usize,
     tray: &mut [u8],
     at: usize,
     n: usize,
 )
-    requires fits { Small card.now s × (at + n ≤ length tray.old) × (p + n < 2 ^ 64) }
-    requires named { (k : ℕ) → k ≤ p + n → F.pre block k }
-    ensures { (b : ℕ → ℕ) → ((k r : ℕ) → F.post block k r → r ≡ b k) → tray.new ≡ over tray.old at (gathered card.now s b p n) }
+    requires fits { (r < s.size) × (i + n < 2 ^ 64) × (at + n ≤ length tray.old) }
+    requires named { (k : ℕ) → k ≤ i + n → F.pre block k }
+    ensures { (b : ℕ → ℕ) → ((k x : ℕ) → F.post block k x → x ≡ b k) → tray.new ≡ over tray.old at (gathered card.now s b (i * s.size + r) n) }
 {
     let size = s.size;
-    for k in p / size..(p + n).div_ceil(size) {
-        let x = piece_in(size, p, n, k);
-        gather_block(&*card, s, block(k), x.from, tray, at + x.done, x.n);
+    let mut from = r;
+    let mut to = at;
+    let mut left = n;
+    // No more blocks than bytes. How many it takes to reach the last byte only a division tells, which would cost more than a block.
+    for k in i..i + n {
+        if left == 0 {
+            return;
+        }
+        let m = (size - from).min(left);
+        gather_block(&*card, s, block(k), from, tray, to, m);
+        from = 0;
+        to += m;
+        left -= m;
     }
 }
 
-// The same of a stream with redirectors: the blocks below each block of level 1 in turn.
+// `n` bytes from place `p` on of a stream with redirectors: the blocks below each block of level 1 in turn.
 fn gather_rows(
     card: &[u8],
     s: Cut,
@@ -56,12 +66,24 @@ fn gather_rows(
     requires { (0 < h) × (at + n ≤ length tray.old) × (p + n < 2 ^ 64) }
     ensures { tray.new ≡ over tray.old at (gathered card.now s (node card.now s top h) p n) }
 {
-    let row = s.size / 4 * s.size;
-    for q in p / row..(p + n).div_ceil(row) {
-        let x = piece_in(row, p, n, q);
+    let size = s.size;
+    let f = fan(s);
+    let first = p / size / f;
+    let mut i = p / size % f;
+    let mut r = p % size;
+    let mut to = at;
+    let mut left = n;
+    for q in first..first + n {
+        if left == 0 {
+            return;
+        }
+        let m = ((f - i) * size - r).min(left);
         let b = node(&*card, s, top, h - 1, q);
-        let below = |k: usize| slot(&*card, s, b, k);
-        gather_blocks(&*card, s, below, x.from, tray, at + x.done, x.n);
+        gather_blocks(&*card, s, |k| slot(&*card, s, b, k), i, r, tray, to, m);
+        i = 0;
+        r = 0;
+        to += m;
+        left -= m;
     }
 }
 
@@ -78,7 +100,7 @@ pub fn gather_stream(card: &[u8], s: Cut, t: Desc, p: usize, tray: &mut [u8], at
     let top = t.top;
     let h = levels(s, t);
     if h == 0 {
-        gather_blocks(&*card, s, |_| top, p, tray, at, m);
+        gather_blocks(&*card, s, |_| top, 0, p % s.size, tray, at, m);
     } else {
         gather_rows(&*card, s, top, h, p, tray, at, m);
     }

@@ -4,8 +4,8 @@ ghost use Rattle.layout.specs.Bytes.{over};
 ghost use Rattle.layout.specs.Streams.{desc_in, fields, table, table_bytes, table_set, offset, slots, stream, desc_set};
 
 use crate::inside::lay_in_table;
-use laying::gather::gather_stream;
 use blocks::cut::Cut;
+use laying::gather::gather_stream;
 use layout::Desc;
 use memory::bytes::{byte, number, put_number};
 
@@ -48,10 +48,11 @@ pub fn descriptors(card: &[u8], s: Cut) -> usize
 
 // The table's own descriptor, set.
 pub fn set_table(card: &mut [u8], s: Cut, size: usize, top: usize, d: usize)
-    requires { (d * s.size < 2 ^ 64) }
+    requires { d * s.size < 2 ^ 64 }
     ensures { card.new ≡ table_set card.old s size top d }
 {
-    put_fields(card, s, s.table, size, top, d);
+    let at = s.table;
+    put_fields(card, s, at, size, top, d);
 }
 
 // Where descriptor `k` stands in the table.
@@ -64,7 +65,7 @@ fn offset(k: usize) -> usize
 
 // Stream `k`'s descriptor; zeros past the table's end.
 pub fn stream(card: &[u8], s: Cut, k: usize) -> Desc
-    requires { (k < 2 ^ 56) }
+    requires { k < 2 ^ 56 }
     ensures { result ≡ stream card.now s k }
 {
     let mut page = [0; 25];

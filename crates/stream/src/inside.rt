@@ -4,9 +4,9 @@ ghost use Rattle.layout.specs.Bytes.{num, bytes};
 ghost use Rattle.layout.specs.Streams.{table_bytes, in_table, in_stream};
 
 use crate::descs::{stream, table};
+use blocks::cut::Cut;
 use laying::gather::gather_stream;
 use laying::lay::lay_stream;
-use blocks::cut::Cut;
 use memory::bytes::{number, put_number};
 
 // The number in the 8 bytes at `at` of the table.
@@ -36,7 +36,7 @@ pub fn lay_in_stream(card: &mut [u8], s: Cut, k: usize, p: usize, given: &[u8], 
 
 // The number `v` goes into the table's 8 bytes at `p`.
 pub fn put_table_number(card: &mut [u8], s: Cut, p: usize, v: usize)
-    requires { (p < 2 ^ 62) }
+    requires { p < 2 ^ 62 }
     ensures { card.new ≡ in_table card.old s p (bytes 8 v) }
 {
     let mut page = [0; 8];

@@ -1,10 +1,10 @@
 // Streams made longer and shorter.
-ghost use Rattle.std.specs.Prelude.{◌≡◌, ◌+◌, ◌^◌, ◌<◌, ◌≤◌, length};
+ghost use Rattle.std.specs.Prelude.{◌≡◌, ◌+◌, ◌*◌, ◌^◌, ◌<◌, ◌≤◌, length};
 ghost use Rattle.layout.specs.Streams.{data_at, grown_for, table, lengthened, table_lengthened, shortened};
 
 use crate::descs::{set_stream, set_table, stream, table};
-use blocks::growth::{grow, lowered_top};
 use blocks::cut::Cut;
+use blocks::growth::{grow, lowered_top};
 use layout::Desc;
 use marking::marks::release;
 use pyramids::pyramid::up;
@@ -18,8 +18,8 @@ struct Body {
 
 // The stream that `t` describes gets the blocks that it wants to hold `n` bytes.
 fn grow_for(card: &mut [u8], s: Cut, t: Desc, n: usize) -> Body
-    requires { (n < 2 ^ 62) }
-    ensures { (card.new ≡ (grown_for card.old s t n).card) × (result.top ≡ (grown_for card.old s t n).top) × (result.d ≡ data_at s t n) }
+    requires { n < 2 ^ 62 }
+    ensures { (card.new ≡ (grown_for card.old s t n).card) × (result.top ≡ (grown_for card.old s t n).top) × (result.d ≡ data_at s t n) × (result.d * s.size < 2 ^ 64) }
 {
     let d = t.reserved / s.size;
     let more = up(s.size, n).saturating_sub(d);
@@ -41,7 +41,7 @@ pub fn lengthen(card: &mut [u8], s: Cut, k: usize, n: usize)
 
 // The table, one descriptor longer.
 pub fn lengthen_table(card: &mut [u8], s: Cut)
-    requires { ((table card.old s).size < 2 ^ 61) }
+    requires { (table card.old s).size < 2 ^ 61 }
     ensures { card.new ≡ table_lengthened card.old s }
 {
     let t = table(card, s);

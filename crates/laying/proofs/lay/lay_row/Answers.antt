@@ -1,23 +1,25 @@
 -- `laying::lay::lay_row` keeps its promise.
 use mathlib.Core.Path.{refl, ap, ◌∙◌}
-use Prim.Native.Nat.{◌<◌}
 use native.Mathlib.Omega.{arith}
-use lib.ListN.{length}
-use Rattle.laws.proofs.ByteLaws.{length_over}
-use Rattle.laying.proofs.Blockwise.{part_low, part_high, part_end}
-use Rattle.laying.proofs.Rowwise.{row-turn, row_begun, row_done}
+use Rattle.laying.proofs.Rowwise.{lay-turn, row_done}
 use Rattle.laying.proofs.lay.lay_row.Goals as goal
 
 pub loop-k-init : goal.loop-k-init
-loop-k-init c = (refl, row_begun _ _ _ _ _ _ _)
+loop-k-init c = (c.requires.0, omega arith, refl, refl)
 
 pub loop-k-preserved : goal.loop-k-preserved
 loop-k-preserved c =
-    let some : 0 < c.args.s.size = omega (arith, c.requires.0.least) in
-    let x = c.piece_in-x.ensures in (
-      ap length c.lay_block.ensures ∙ length_over _ _ _ ∙ c.loop-k.invariant.0,
-      row-turn c.args.s some _ _ _ _ _ _ _ _ c.requires.2 (part_low _ _ c.args.n some _ c.loop-k.auto.k) (part_high _ _ _ some _ _ c.div_ceil-k-end.ensures c.loop-k-test.true) x.0 x.1 x.2 _ _ _ _ c.slot-to.ensures.0 c.lay_block.ensures ∙ c.loop-k.invariant.1,
+    let i = c.loop-k.invariant in
+    let size = ap (λ s. s.size) c.s.view_is in
+    let m = rw size at c.min-m.ensures in (
+      omega (arith, size),
+      omega (arith, m),
+      omega arith,
+      lay-turn _ (omega arith) _ _ _ _ (omega (arith, c.if-left-eq0.false)) (omega (arith, i.2, c.requires.2)) _ _ _ _ _ _ i.0 m c.slot.ensures.0 c.lay_block.ensures ∙ i.3,
     )
 
+pub returns-then-left-eq0 : goal.returns-then-left-eq0
+returns-then-left-eq0 c = row_done _ _ _ _ _ _ _ (omega arith) ∙ c.loop-k.invariant.3
+
 pub returns : goal.returns
-returns c = row_done _ _ _ _ _ _ _ (omega (arith, part_end c.args.s.size c.args.p c.args.n (omega (arith, c.requires.0.least)) _ _ c.div_ceil-k-end.ensures c.loop-k-test.false)) ∙ c.loop-k.invariant.1
+returns c = row_done _ _ _ _ _ _ _ (omega arith) ∙ c.loop-k.invariant.3
