@@ -2,25 +2,22 @@
 use mathlib.Core.Path.{◌≡◌, refl, sym, ap, ◌∙◌}
 use mathlib.Core.Bool.{Bool, true, false}
 use mathlib.Core.List.{List, [], ◌∷◌, map}
-use Prim.Native.Nat.{ℕ, zero, suc, ◌+◌, ◌-◌, ◌*◌, ◌%◌, ◌^◌, min, ◌≤◌, ◌<◌}
-use native.Mathlib.Nat.{div-add-mod', mod-lt, mul-le-mul}
+use Prim.Native.Nat.{ℕ, zero, suc, ◌+◌, ◌-◌, ◌*◌, ◌^◌, min, ◌≤◌, ◌<◌}
 use native.Mathlib.Decide.{dec_le}
 use native.Mathlib.Omega.{arith}
 use lib.ListN.{length, set, replicate, length-map}
-use lib.Dec.{leb, eqb, T}
+use lib.Dec.{leb, T}
 use Rattle.std.specs.Prelude.{Option, Some, None}
 use Rattle.layout.specs.Limits.{most_streams}
 use Rattle.layout.specs.Bytes.{pick, both, num, over, run, those, all_b}
-use Rattle.layout.specs.Pyramid.{up}
 use Rattle.layout.specs.Marks.{fresh, mark_ok, mark_set}
-use Rattle.layout.specs.Streams.{data_of, desc_of, live, lives, frees, desc_chain, slots, stream, stream_bytes, table_bytes}
+use Rattle.layout.specs.Streams.{desc_of, live, lives, slots, stream, stream_bytes, table_bytes}
 use Rattle.layout.specs.Filing.{Entry, name_length, entry_at, entries_from, entries, entries_of, good_name, reads, reads_from, distinct_names, good_directory}
-use Rattle.layout.specs.Sound.{right_desc, live_form, free_form, good_form, same_set, reached, rule4, rule5, rule8}
+use Rattle.layout.specs.Sound.{same_set, reached, rule4, rule8}
 use Rattle.laws.proofs.Picks.{leb_yes, leb_no}
-use Rattle.laws.proofs.Laying.{length-contents}
 use Rattle.laws.proofs.Lists.{in_run, length_run}
 use Rattle.laws.proofs.Sets.{distinct_le}
-use Rattle.laws.proofs.Tests.{is_both, is_eqb, is_leb, is_itself, is_all, is_separate}
+use Rattle.laws.proofs.Tests.{is_separate}
 use Rattle.laws.proofs.Marking.{mark-separate}
 use Rattle.filing.specs.Paged.{piece_size, piece_at}
 use Rattle.filing.proofs.Finding.{entries-start, entries-step, entries_stop}
