@@ -5,23 +5,26 @@
 ghost use Rattle.std.specs.Prelude.{◌≡◌};
 ghost use Rattle.front.specs.Fronts.{examined_of, sought_of};
 
+use blocks::cut::Cut;
 use filing::entries::{Found, look_up};
 use filing::names::good_name;
 use heading::header::shape;
-use layout::Shape;
 use layout::answers::Refusal;
+
+// L69: the index of the root's stream.
+pub const ROOT: usize = 0;
 
 // A card that passed the check: how it is cut, and how many blocks are free.
 #[derive(Clone, Copy)]
 pub struct Examined {
-    pub shape: Shape,
+    pub shape: Cut,
     pub free: usize,
 }
 
 // A name sought on such a card: how the card is cut, and where in the root the name is, if it is known.
 #[derive(Clone, Copy)]
 pub struct Sought {
-    pub shape: Shape,
+    pub shape: Cut,
     pub found: Option<Found>,
 }
 
@@ -31,7 +34,7 @@ pub fn examine(card: &[u8]) -> Result<Examined, Refusal>
 {
     let free = sound::check::check(card)?;
     Ok(Examined {
-        shape: shape(card),
+        shape: Cut::of(shape(card)),
         free,
     })
 }
@@ -44,6 +47,6 @@ pub fn seek(card: &[u8], name: &[u8]) -> Result<Sought, Refusal>
     if !good_name(name) {
         return Err(Refusal::BadName);
     }
-    let found = look_up(card, shape, 0, name);
+    let found = look_up(card, shape, ROOT, name);
     Ok(Sought { shape, found })
 }

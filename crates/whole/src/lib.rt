@@ -3,6 +3,7 @@
 
 ghost use Rattle.layout.specs.Promises.{Formats, Checks, Rooms};
 
+use blocks::cut::Cut;
 use front::examine;
 use heading::header::{cut, good_shape};
 use layout::answers::Refusal;
@@ -15,7 +16,8 @@ pub fn format(card: &mut [u8], shift: usize) -> Result<(), Refusal>
     if !good_shape(len, shift) {
         return Err(Refusal::BadShape);
     }
-    formatting::format::format(card, cut(len, shift), shift);
+    let shape = cut(len, shift);
+    formatting::format::format(card, Cut::of(shape), shift);
     Ok(())
 }
 
