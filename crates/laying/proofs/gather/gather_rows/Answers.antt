@@ -6,7 +6,7 @@ use Rattle.std.proofs.Common.{rules}
 use Rattle.layout.specs.Bytes.{over}
 use Rattle.layout.specs.Blocks.{slot}
 use Rattle.blocks.proofs.Near.{fan_pos}
-use Rattle.laying.proofs.Blockwise.{rows_begin, rows_turn, gathered_end, row_fits, row_room, row_low}
+use Rattle.laying.proofs.Blockwise.{rows_begin, rows_turn, gathered_end, row_room}
 use Rattle.laying.proofs.gather.gather_rows.Goals as goal
 
 pub loop-q-init : goal.loop-q-init

@@ -3,7 +3,7 @@ use mathlib.Core.Path.{refl, ◌∙◌}
 use native.Mathlib.Nat.{mod-lt}
 use native.Mathlib.Omega.{arith}
 use Rattle.blocks.proofs.Near.{fan_pos}
-use Rattle.laying.proofs.Blockwise.{row_fits, row_room, row_low}
+use Rattle.laying.proofs.Blockwise.{row_room}
 use Rattle.laying.proofs.Rowwise.{lays_turn, rows_done, laid-top, laid-below, laid_begun}
 use Rattle.laying.proofs.lay.lay.Goals as goal
 
