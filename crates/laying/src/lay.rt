@@ -36,7 +36,7 @@ fn lay_row(
     let mut at = r;
     let mut q = from;
     let mut left = n;
-    // No more blocks than bytes, as in `gather_blocks`.
+    // There are no more blocks than bytes, so `left` ends it. How many there are only a division tells.
     for k in i..i + n {
         if left == 0 {
             return;
@@ -74,6 +74,7 @@ pub fn lay(
     let mut r = p % size;
     let mut at = from;
     let mut left = n;
+    // No more rows than bytes.
     for q in first..first + n {
         if left == 0 {
             return;
