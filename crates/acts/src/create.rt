@@ -79,12 +79,12 @@ pub fn create_wants(card: &[u8], s: Cut, k: usize, name: &[u8]) -> usize
     ensures { result ≡ create_wants_in card.now s k name.now }
 {
     let d = stream(card, s, k);
-    let more = wants(s, d, d.size + 6 + name.len());
+    let more = wants(s.shape(), d, d.size + 6 + name.len());
     if table_number(card, s, 0) != END8 {
         return more;
     }
     let t = table(card, s);
-    wants(s, t, t.size + LENGTH) + more
+    wants(s.shape(), t, t.size + LENGTH) + more
 }
 
 // A new stream, and its entry at the end of directory `k`.

@@ -3,6 +3,7 @@ ghost use Rattle.std.specs.Prelude.{◌≡◌};
 ghost use Rattle.layout.specs.Blocks.{wide, narrow, first_free, next, enough, taken};
 
 use crate::cut::Cut;
+use layout::Shape;
 use crate::places::{slot, start};
 use memory::bytes::{number, put_number};
 use memory::runs::clear;
@@ -28,7 +29,7 @@ pub fn narrowed(b: usize) -> usize
     if b == END8 { END4 } else { b }
 }
 
-pub fn first_free(card: &[u8], s: Cut) -> usize
+pub fn first_free(card: &[u8], s: Shape) -> usize
     ensures { result ≡ first_free card.now s }
 {
     number(&*card, s.first, 8)
@@ -45,7 +46,7 @@ pub fn next(card: &[u8], s: Cut, b: usize) -> usize
 pub fn enough(card: &[u8], s: Cut, n: usize) -> bool
     ensures { result ≡ enough card.now s n }
 {
-    let mut b = first_free(&*card, s);
+    let mut b = first_free(&*card, s.shape());
     for _ in 0..n {
         if b == END8 {
             return false;
@@ -59,7 +60,7 @@ pub fn enough(card: &[u8], s: Cut, n: usize) -> bool
 pub fn take_block(card: &mut [u8], s: Cut) -> usize
     ensures { (result ≡ first_free card.old s) × (card.new ≡ taken card.old s) }
 {
-    let b = first_free(card, s);
+    let b = first_free(card, s.shape());
     let after = next(card, s, b);
     clear(card, start(s, b), s.size);
     put_number(card, s.first, 8, after);

@@ -44,4 +44,18 @@ impl Cut {
             filing: s.filing,
         }
     }
+
+    // The shape that it is, whose numbers are small.
+    pub fn shape(self) -> Shape
+        ensures { (result ≡ self) × Narrow result }
+    {
+        Shape {
+            base: self.base,
+            size: self.size,
+            count: self.count,
+            first: self.first,
+            table: self.table,
+            filing: self.filing,
+        }
+    }
 }

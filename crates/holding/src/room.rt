@@ -1,18 +1,16 @@
 // How many blocks a longer stream takes.
-ghost use Rattle.std.specs.Prelude.{◌≡◌, ◌^◌, ◌<◌};
+ghost use Rattle.std.specs.Prelude.{◌≡◌, ◌^◌, ◌<◌, ◌≤◌};
 ghost use Rattle.layout.specs.Streams.{wants};
 
-use blocks::cut::Cut;
-use blocks::places::fan;
-use layout::Desc;
+use layout::{Desc, Shape};
 use pyramids::pyramid::{needed, up};
 
 // The blocks that the stream that `t` describes takes to hold `n` bytes.
-pub fn wants(s: Cut, t: Desc, n: usize) -> usize
-    requires { n < 2 ^ 62 }
+pub fn wants(s: Shape, t: Desc, n: usize) -> usize
+    requires { (64 ≤ s.size) × (s.size ≤ 4096) × (n < 2 ^ 62) }
     ensures { (result ≡ wants s t n) × (result < 2 ^ 60) }
 {
-    let f = fan(s);
+    let f = s.size / 4;
     let d = t.reserved / s.size;
     let more = up(s.size, n).saturating_sub(d);
     needed(f, d + more).saturating_sub(needed(f, d))

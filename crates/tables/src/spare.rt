@@ -97,7 +97,7 @@ pub fn rule5(card: &[u8], s: Cut, tab: &mut [u8], marks: &mut [u8]) -> bool
 {
     let n = descriptors(card, s);
     gather_stream(card, s, table(card, s), 0, tab, 0, LONGEST);
-    if !good_forms(s, tab, n) {
+    if !good_forms(s.shape(), tab, n) {
         return false;
     }
     clear(marks, 0, n);

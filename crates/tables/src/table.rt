@@ -21,7 +21,7 @@ pub fn rule4(card: &[u8], s: Cut, marks: &mut [u8]) -> bool
 {
     let t = table(card, s);
     let whole = SHORTEST <= t.size && t.size <= LONGEST && (t.size - START) % LENGTH == 0;
-    if !whole || !right_desc(s, t) {
+    if !whole || !right_desc(s.shape(), t) {
         return false;
     }
     clear(marks, 0, s.count);

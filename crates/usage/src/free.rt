@@ -15,7 +15,7 @@ fn mark_chain(card: &[u8], s: Cut, marks: &mut [u8]) -> Option<usize>
     ensures { (result ≡ pick (mark_ok s.count marks.old (chain card.now s)) (Some (length (chain card.now s))) None) × (marks.new ≡ mark_set s.count marks.old (chain card.now s)) }
 {
     let count = s.count;
-    let mut b = first_free(card, s);
+    let mut b = first_free(card, s.shape());
     for found in 0..count + 1 {
         if b == END8 {
             return Some(found);

@@ -6,7 +6,7 @@ use Rattle.blocks.proofs.Links.{enough-start, enough-step, enough_stop, enough_e
 use Rattle.blocks.proofs.chain.enough.Goals as goal
 
 pub loop-init : goal.loop-init
-loop-init c = rw sub-zero (enough-start _ _ _ _ c.first_free-b.ensures)
+loop-init c = rw sub-zero (enough-start _ _ _ _ (rw c.shape.ensures.0 at c.first_free-b.ensures))
 
 pub returns-then-b : goal.returns-then-b
 returns-then-b c = enough_stop _ _ _ (omega arith) c.if-b.true ∙ c.loop.invariant
