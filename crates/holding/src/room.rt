@@ -1,5 +1,5 @@
 // How many blocks a longer stream takes.
-ghost use Rattle.std.specs.Prelude.{◌≡◌, ◌^◌, ◌<◌, ◌≤◌};
+ghost use Rattle.std.specs.Prelude.{◌≡◌, ◌^◌, ◌<◌};
 ghost use Rattle.layout.specs.Streams.{wants};
 
 use blocks::cut::Cut;
@@ -9,7 +9,7 @@ use pyramids::pyramid::{needed, up};
 
 // The blocks that the stream that `t` describes takes to hold `n` bytes.
 pub fn wants(s: Cut, t: Desc, n: usize) -> usize
-    requires { (64 ≤ s.size) × (s.size ≤ 4096) × (n < 2 ^ 62) }
+    requires { n < 2 ^ 62 }
     ensures { (result ≡ wants s t n) × (result < 2 ^ 60) }
 {
     let f = fan(s);

@@ -6,9 +6,9 @@ ghost use Rattle.filing.specs.Paged.{piece_at};
 ghost use Rattle.naming.specs.Buckets.{bucket_of, name_at, among, Linked, Filed};
 ghost use Rattle.naming.specs.Rooted.{bytes_of, Tidy, Here};
 
+use blocks::cut::Cut;
 use filing::entries::read_head;
 use filing::pages::{PAGE, PIECE, name_at, turn};
-use blocks::cut::Cut;
 use layout::Desc;
 
 // How many buckets there are.

@@ -13,15 +13,15 @@ loop-at-init c = (page_blank _ _ (sym (length-contents _ _ _ _ _)), omega arith,
 pub returns-then-name_is : goal.returns-then-name_is
 returns-then-name_is c = let long = sym (length-contents _ _ _ _ _) in
     let w = turned_piece _ _ _ _ _ _ _ c.turn-from.ensures long refl c.min.ensures in
-    find_here _ _ _ _ _ _ _ _ long c.loop-at-test.true (piece_index _ _ _ w _ c.read_head-h.ensures.0) (piece_length _ _ _ w _ c.read_head-h.ensures.1) (piece_named _ _ _ w _ _ c.requires.2 c.name_is.ensures) c.if-name_is.true ∙ c.loop-at.invariant.3
+    find_here _ _ _ _ _ _ _ _ long c.loop-at-test.true (piece_index _ _ _ w _ c.read_head-h.ensures.0) (piece_length _ _ _ w _ c.read_head-h.ensures.1) (piece_named _ _ _ w _ _ c.requires.1 c.name_is.ensures) c.if-name_is.true ∙ c.loop-at.invariant.3
 
 pub loop-at-preserved : goal.loop-at-preserved
 loop-at-preserved c = let long = sym (length-contents _ _ _ _ _) in
     let w = turned_piece _ _ _ _ _ _ _ c.turn-from.ensures long refl c.min.ensures in (
       c.turn-from.ensures.paged,
       omega (arith, c.loop-at.invariant.1),
-      omega (arith, c.loop-at-test.true, c.requires.1, c.read_head-h.ensures.2),
-      find-next _ _ _ _ _ _ _ _ long c.loop-at-test.true (piece_index _ _ _ w _ c.read_head-h.ensures.0) (piece_length _ _ _ w _ c.read_head-h.ensures.1) (piece_named _ _ _ w _ _ c.requires.2 c.name_is.ensures) c.if-name_is.false ∙ c.loop-at.invariant.3,
+      omega (arith, c.loop-at-test.true, c.requires.0, c.read_head-h.ensures.2),
+      find-next _ _ _ _ _ _ _ _ long c.loop-at-test.true (piece_index _ _ _ w _ c.read_head-h.ensures.0) (piece_length _ _ _ w _ c.read_head-h.ensures.1) (piece_named _ _ _ w _ _ c.requires.1 c.name_is.ensures) c.if-name_is.false ∙ c.loop-at.invariant.3,
     )
 
 pub returns : goal.returns

@@ -21,7 +21,7 @@ pub loop-at-preserved : goal.loop-at-preserved
 loop-at-preserved c = let long = sym (length-contents _ _ _ _ _) in
     let w = turned_piece _ _ _ _ _ _ _ c.turn-from.ensures long refl c.min.ensures in (
       c.turn-from.ensures.paged,
-      omega (arith, c.loop-at-test.true, c.requires.1, c.read_head-h.ensures.2),
+      omega (arith, c.loop-at-test.true, c.requires, c.read_head-h.ensures.2),
       nth_next _ _ _ _ _ long c.loop-at-test.true (piece_index _ _ _ w _ c.read_head-h.ensures.0) (piece_length _ _ _ w _ c.read_head-h.ensures.1) _ c.if-left-eq0.false ∙ c.loop-at.invariant.2,
     )
 

@@ -3,4 +3,4 @@ use Rattle.filing.proofs.Paging.{page-gathered}
 use Rattle.filing.proofs.pages.turn.Goals as goal
 
 pub returns : goal.returns
-returns c = page-gathered _ _ _ _ c.requires.1.long c.gather_stream.ensures
+returns c = page-gathered _ _ _ _ c.requires.long c.gather_stream.ensures
