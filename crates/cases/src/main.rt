@@ -20,10 +20,10 @@ ghost use Rattle.std.specs.Prelude.{◌<◌, ◌≤◌, length};
 use damage::Damage;
 use dice::sums::sum;
 use samples::card::Card;
+use samples::draft::Draft;
 use samples::draws::Draws;
 use samples::fault::Fault;
 use samples::kinds::Kind;
-use samples::plan::Plan;
 use samples::sizes::BlockSize;
 use std::alloc::Global;
 
@@ -46,7 +46,7 @@ fn block_of<D: Damage>(damage: &D, kind: Kind, draws: &Draws) -> Option<BlockSiz
 fn damaged<D: Damage>(alloc: Global, damage: &D, draws: Draws) -> Result<Card, Fault> {
     let kind = damage.kind(&draws).ok_or(Fault::NoSuchPart)?;
     let block = block_of(damage, kind, &draws).ok_or(Fault::NoSuchPart)?;
-    let mut plan = Plan::drawn(alloc, draws, kind, block)?;
+    let mut plan = Draft { draws, kind, block }.plan(alloc)?;
     damage.change(&mut plan).ok_or(Fault::NoSuchPart)?;
     let mut card = Card::new(alloc, plan)?;
     damage.damage(&mut card).ok_or(Fault::NoSuchPart)?;

@@ -6,6 +6,7 @@ use samples::draws::{Span, Value};
 use samples::entries::Entry;
 use samples::image::Field;
 use samples::kinds::Kind;
+use samples::owners::Owner;
 use samples::parts::Part;
 use samples::plan::Plan;
 
@@ -101,17 +102,9 @@ fn last_shorter(card: &mut Card) -> Option<()> {
     )
 }
 
-// The root's size is wrong by a few bytes.
-fn put_root_size(card: &mut Card, larger: bool) -> Option<()> {
-    let by = card.plan.draws.one_in(FEW);
-    let root = &card.plan.streams.root;
-    let size = if larger {
-        root.size.checked_add(by)?
-    } else {
-        root.size.checked_sub(by)?
-    };
-    let desc = root.desc;
-    card.put_part(desc, Part::Size, u64::from(size))
+// The root's size on the card.
+fn put_root_size(card: &mut Card, size: u32) -> Option<()> {
+    card.put_part(Owner::Root, Part::Size, u64::from(size))
 }
 
 // A barred byte in a name: its first one, its last one or any.
@@ -194,8 +187,16 @@ impl Damage for Root {
             Root::LastLonger(values) => last_longer(card, values),
             Root::LastLongest => last_longest(card),
             Root::LastShorter => last_shorter(card),
-            Root::Cut => put_root_size(card, false),
-            Root::TooLong => put_root_size(card, true),
+            Root::Cut => {
+                let by = card.plan.draws.one_in(FEW);
+                let size = card.plan.streams.root.size.checked_sub(by)?;
+                put_root_size(card, size)
+            }
+            Root::TooLong => {
+                let by = card.plan.draws.one_in(FEW);
+                let size = card.plan.streams.root.size.checked_add(by)?;
+                put_root_size(card, size)
+            }
             Root::Slash => slash(card),
             Root::Equal => same_name(card),
             _ => Some(()),

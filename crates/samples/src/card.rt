@@ -55,15 +55,23 @@ impl Card {
         Some(self.plan.streams.of(owner)?.desc)
     }
 
-    // A field of a descriptor.
-    pub fn put_part(&mut self, desc: Desc, part: Part, v: u64) -> Option<()> {
+    // A field of an owner's descriptor.
+    pub fn put_part(&mut self, owner: Owner, part: Part, v: u64) -> Option<()> {
+        let desc = self.desc(owner)?;
         self.image.put_part(&self.plan.streams.table, desc, part, v)
     }
 
-    // A descriptor but for its flags.
-    pub fn put_desc(&mut self, desc: Desc, size: u64, top: u64, reserved: u64) -> Option<()> {
+    // An owner's descriptor but for its flags.
+    pub fn put_desc(&mut self, owner: Owner, size: u64, top: u64, reserved: u64) -> Option<()> {
+        let desc = self.desc(owner)?;
         self.image
             .put_desc(&self.plan.streams.table, desc, size, top, reserved)
+    }
+
+    // A field of the free descriptor `k`.
+    pub fn put_spare(&mut self, k: u16, part: Part, v: u64) -> Option<()> {
+        let desc = Desc::Table(k);
+        self.image.put_part(&self.plan.streams.table, desc, part, v)
     }
 
     // The table's first bytes.

@@ -1,4 +1,6 @@
 // The root's entries: which stream each leads to, and how its name is made.
+ghost use Rattle.std.specs.Prelude.{◌≡◌, ◌+◌, IfSome};
+
 use crate::image::Field;
 
 #[derive(Clone, Copy)]
@@ -29,13 +31,17 @@ impl Entry {
     }
 
     // Where byte `p` of the name stands in the root.
-    pub fn name_place(self, p: u16) -> Option<u32> {
+    pub fn name_place(self, p: u16) -> Option<u32>
+        ensures { IfSome result (λ at. at ≡ self.place + BEFORE_NAME + p) }
+    {
         self.place
             .checked_add(u32::from(BEFORE_NAME) + u32::from(p))
     }
 
     // Where the next entry stands.
-    pub fn end(self) -> Option<u32> {
+    pub fn end(self) -> Option<u32>
+        ensures { IfSome result (λ at. at ≡ self.place + BEFORE_NAME + self.length) }
+    {
         self.name_place(self.length)
     }
 }

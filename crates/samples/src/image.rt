@@ -1,5 +1,5 @@
 // The bytes of a card, with one block more, and how many of them are shown.
-ghost use Rattle.std.specs.Prelude.{◌≤◌};
+ghost use Rattle.std.specs.Prelude.{◌≡◌, vec_len};
 
 use crate::draws::Draws;
 use crate::owners::Stream;
@@ -45,7 +45,9 @@ impl Image {
     }
 
     // Bytes from `at` on.
-    pub fn put_bytes(&mut self, at: u32, bytes: &[u8]) -> Option<()> {
+    pub fn put_bytes(&mut self, at: u32, bytes: &[u8]) -> Option<()>
+        ensures { vec_len self.new.bytes ≡ vec_len self.old.bytes }
+    {
         let image = self.bytes.as_mut_slice();
         let place = image.get_mut(at as usize..)?.get_mut(..bytes.len())?;
         place.copy_from_slice(bytes);
@@ -53,12 +55,16 @@ impl Image {
     }
 
     // The low bytes of a number, as many as the field has.
-    pub fn put(&mut self, field: Field, v: u64) -> Option<()> {
+    pub fn put(&mut self, field: Field, v: u64) -> Option<()>
+        ensures { vec_len self.new.bytes ≡ vec_len self.old.bytes }
+    {
         self.put_bytes(field.at, v.to_le_bytes().get(..field.width)?)
     }
 
     // Adds to a byte, mod 256.
-    pub fn add(&mut self, at: usize, more: u8) -> Option<()> {
+    pub fn add(&mut self, at: usize, more: u8) -> Option<()>
+        ensures { vec_len self.new.bytes ≡ vec_len self.old.bytes }
+    {
         let byte = self.bytes.get_mut(at)?;
         *byte = byte.wrapping_add(more);
         Some(())
@@ -76,14 +82,18 @@ impl Image {
         self.bytes.get(self.spot(stream, at)?).copied()
     }
 
-    pub fn put_byte_in(&mut self, stream: &Stream, at: u32, v: u8) -> Option<()> {
+    pub fn put_byte_in(&mut self, stream: &Stream, at: u32, v: u8) -> Option<()>
+        ensures { vec_len self.new.bytes ≡ vec_len self.old.bytes }
+    {
         let spot = self.spot(stream, at)?;
         *self.bytes.get_mut(spot)? = v;
         Some(())
     }
 
     // The same in a stream's contents, where the bytes may stand in two blocks.
-    pub fn put_in(&mut self, stream: &Stream, field: Field, v: u64) -> Option<()> {
+    pub fn put_in(&mut self, stream: &Stream, field: Field, v: u64) -> Option<()>
+        ensures { vec_len self.new.bytes ≡ vec_len self.old.bytes }
+    {
         let mut at = field.at;
         for &byte in v.to_le_bytes().get(..field.width)? {
             self.put_byte_in(stream, at, byte)?;
