@@ -11,12 +11,13 @@ use filing::entries::read_head;
 use filing::pages::{PAGE, PIECE, name_at, turn};
 use layout::{Desc, Shape};
 
-// The buckets, and the numbers that mix a name's bytes into one.
+// How many buckets there are.
 const BUCKETS: usize = 1024;
 
-const FACTOR: usize = 31;
-
+// A name's bytes are mixed into one number below this one, each time by the factor.
 const MIXED: usize = 65536;
+
+const FACTOR: usize = 31;
 
 // The most entries that a directory has.
 const ENTRIES: usize = 256;

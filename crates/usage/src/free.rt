@@ -1,5 +1,5 @@
 // Rule 7: the free chain, marked block by block; it ends on any bytes.
-ghost use Rattle.std.specs.Prelude.{◌≡◌, length};
+ghost use Rattle.std.specs.Prelude.{◌≡◌, not, length, eqb, count_by};
 ghost use Rattle.layout.specs.Bytes.{pick};
 ghost use Rattle.layout.specs.Marks.{mark_ok, mark_set};
 ghost use Rattle.layout.specs.Blocks.{chain};
@@ -29,6 +29,19 @@ fn mark_chain(card: &[u8], s: Shape, marks: &mut [u8]) -> Option<usize>
     Some(s.count + 1)
 }
 
+// How many are marked. `filter` and `count` say the same, and go a byte at a time; of this the compiler makes wide steps.
+fn count_marks(marks: &[u8]) -> usize
+    ensures { result ≡ count_by (λ m. not (eqb m 0)) marks.now }
+{
+    let mut found = 0;
+    for m in marks {
+        if *m != 0 {
+            found += 1;
+        }
+    }
+    found
+}
+
 // Rule 7, on marks that hold the blocks in use: the chain's blocks are apart from them, and then no block is left over. Gives
 // the number of free blocks; none where the rule is broken.
 pub fn rule7(card: &[u8], s: Shape, marks: &mut [u8]) -> Option<usize>
@@ -36,8 +49,7 @@ pub fn rule7(card: &[u8], s: Shape, marks: &mut [u8]) -> Option<usize>
     ensures { result ≡ pick (rule7 card.now s) (Some (length (chain card.now s))) None }
 {
     let found = mark_chain(card, s, marks)?;
-    let count = marks[..s.count].iter().filter(|m| **m != 0).count();
-    if count != s.count {
+    if count_marks(&marks[..s.count]) != s.count {
         return None;
     }
     Some(found)
