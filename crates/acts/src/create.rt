@@ -7,15 +7,20 @@ ghost use Rattle.layout.specs.Ranges.{Small};
 ghost use Rattle.acts.specs.Fits.{Fits};
 ghost use Rattle.acts.specs.Full.{full_table};
 
+use blocks::chain::END8;
 use filing::edits::append;
 use holding::read::size;
 use holding::room::wants;
 use layout::Shape;
 use layout::limits::most_streams;
-use memory::numbers::minus;
 use stream::descs::{descriptors, stream, table};
 use stream::inside::{lay_in_table, put_table_number, table_number};
 use stream::lengths::lengthen_table;
+
+// L62, L63: where the table's first descriptor stands, and how many bytes a descriptor has.
+pub(crate) const FIRST_PLACE: usize = 8;
+
+pub(crate) const LENGTH: usize = 25;
 
 // The index that a new stream gets.
 pub fn new_index(card: &[u8], s: Shape) -> usize
@@ -23,10 +28,10 @@ pub fn new_index(card: &[u8], s: Shape) -> usize
     ensures { result ≡ new_index (table_bytes card.now s) }
 {
     let first = table_number(card, s, 0);
-    if first == 0xffff_ffff_ffff_ffff {
+    if first == END8 {
         return descriptors(card, s);
     }
-    minus(first, 8) / 25
+    first.saturating_sub(FIRST_PLACE) / LENGTH
 }
 
 // Whether the table can take no more streams.
@@ -34,10 +39,7 @@ pub fn full(card: &[u8], s: Shape) -> bool
     requires { Small card.now s }
     ensures { result ≡ full_table (table_bytes card.now s) }
 {
-    if table_number(card, s, 0) != 0xffff_ffff_ffff_ffff {
-        return false;
-    }
-    most_streams() <= descriptors(card, s)
+    table_number(card, s, 0) == END8 && most_streams() <= descriptors(card, s)
 }
 
 // The free descriptor at `first` comes off the chain and becomes all zero.
@@ -47,8 +49,7 @@ fn reuse_descriptor(card: &mut [u8], s: Shape, first: usize)
 {
     let after = table_number(card, s, first);
     put_table_number(card, s, 0, after);
-    let zeros = [0; 25];
-    lay_in_table(card, s, first, &zeros);
+    lay_in_table(card, s, first, &[0; LENGTH]);
 }
 
 // One descriptor more at the table's end, all zero.
@@ -58,17 +59,17 @@ fn add_descriptor(card: &mut [u8], s: Shape)
 {
     let n = descriptors(card, s);
     lengthen_table(card, s);
-    let zeros = [0; 25];
-    lay_in_table(card, s, 8 + 25 * n, &zeros);
+    lay_in_table(card, s, FIRST_PLACE + LENGTH * n, &[0; LENGTH]);
 }
 
 // The descriptor that a new stream gets.
+#[tactic(auto, unfolding(layout::specs::Calls::described))]
 pub fn describe(card: &mut [u8], s: Shape)
     requires { Small card.old s × Fits card.old s }
     ensures { card.new ≡ described card.old s }
 {
     let first = table_number(card, s, 0);
-    if first == 0xffff_ffff_ffff_ffff {
+    if first == END8 {
         add_descriptor(card, s);
     } else {
         reuse_descriptor(card, s, first);
@@ -82,11 +83,11 @@ pub fn create_wants(card: &[u8], s: Shape, k: usize, name: &[u8]) -> usize
 {
     let d = stream(card, s, k);
     let more = wants(s, d, d.size + 6 + name.len());
-    if table_number(card, s, 0) != 0xffff_ffff_ffff_ffff {
+    if table_number(card, s, 0) != END8 {
         return more;
     }
     let t = table(card, s);
-    wants(s, t, t.size + 25) + more
+    wants(s, t, t.size + LENGTH) + more
 }
 
 // A new stream, and its entry at the end of directory `k`.

@@ -5,8 +5,11 @@ ghost use Rattle.layout.specs.Calls.{undescribed};
 ghost use Rattle.layout.specs.Ranges.{Small};
 ghost use Rattle.acts.specs.Deleted.{deleted_at};
 
+use crate::create::{FIRST_PLACE, LENGTH};
+use blocks::chain::END8;
 use filing::edits::remove;
 use layout::Shape;
+use layout::limits::MOST_BLOCKS;
 use memory::bytes::put_number;
 use stream::inside::{lay_in_table, put_table_number, table_number};
 use stream::lengths::shorten;
@@ -20,8 +23,8 @@ fn undescribe(card: &mut [u8], s: Shape, j: usize, marks: &mut [u8])
     shorten(card, s, j, 0, marks);
     let mut page = [0; 16];
     put_number(&mut page, 0, 8, first);
-    put_number(&mut page, 8, 8, 0xffff_ffff_ffff_ffff);
-    let at = 8 + 25 * j;
+    put_number(&mut page, 8, 8, END8);
+    let at = FIRST_PLACE + LENGTH * j;
     lay_in_table(card, s, at, &page);
     put_table_number(card, s, 0, at);
 }
@@ -31,7 +34,7 @@ pub fn delete(card: &mut [u8], s: Shape, k: usize, j: usize, at: usize, n: usize
     requires { Small card.old s × (k < 2 ^ 56) × (j < 2 ^ 56) × (at + n < 2 ^ 61) × ((stream (undescribed card.old s j) s k).size < 2 ^ 62) }
     ensures { card.new ≡ deleted_at card.old s k j at n }
 {
-    let mut marks = [0; 4096];
+    let mut marks = [0; MOST_BLOCKS];
     undescribe(card, s, j, &mut marks);
     remove(card, s, k, at, 6 + n, &mut marks);
 }

@@ -12,14 +12,12 @@ use layout::Shape;
 use stream::descs::stream;
 
 // Entry number `n` of directory `k`; where there is one, its name goes into the tray.
-pub fn list(card: &[u8], s: Shape, k: usize, n: usize, tray: &mut [u8]) -> Row
+pub fn list(card: &[u8], s: Shape, k: usize, n: usize, tray: &mut [u8]) -> Option<Row>
     requires { Small card.now s × (k < 2 ^ 56) × ((stream card.now s k).size < 2 ^ 62) }
     ensures { (result ≡ numbered (entries_of card.now s k) n) × (tray.new ≡ over tray.old 0 (get_or (entries_of card.now s k) n nothing).name) }
 {
     let t = stream(card, s, k);
-    let row = nth_entry(card, s, t, n);
-    if row.there {
-        gather_stream(card, s, t, row.at + 6, tray, 0, row.length);
-    }
-    row
+    let row = nth_entry(card, s, t, n)?;
+    gather_stream(card, s, t, row.at + 6, tray, 0, row.length);
+    Some(row)
 }

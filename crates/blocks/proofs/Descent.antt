@@ -9,10 +9,6 @@ use Rattle.laws.proofs.Shorter.{node_deep}
 use Rattle.blocks.specs.Plain.{plain_shape}
 use Rattle.layout.specs.declared.Shape.{Shape}
 
-pub node-top : (c : List ℕ) (s : Shape) (b h j : ℕ) → h ≡ 0 → b ≡ node c s b h j
-unfolding node
-node-top c s b h j e = rw e
-
 pub node_down : (c : List ℕ) (s : Shape) (two : 2 ≤ fan s) (b h j i v r x : ℕ) → 1 ≤ h → x ≡ above (fan s) (h - 1) j → i ≡ x % fan s → v ≡ slot c s b i → r ≡ node c s v (h - 1) j → r ≡ node c s b h j
 unfolding node
 node_down c s two b zero j i v r x l a e f g = absurd (omega arith)

@@ -1,14 +1,13 @@
 -- Places: a block number above 2^32 is past the end of every card, so code may clamp it.
 use mathlib.Core.Path.{◌≡◌, sym, ◌∙◌}
 use mathlib.Core.List.{List}
-use Prim.Native.Nat.{ℕ, ◌+◌, ◌*◌, ◌/◌, ◌%◌, min, ◌≤◌, ◌<◌}
-use native.Mathlib.Nat.{add-zero, min-eq_left, min-eq_right, le-mul_of_pos_right, mul-le-mul, le-div_iff_mul-le, mod-lt}
+use Prim.Native.Nat.{ℕ, ◌+◌, ◌*◌, ◌/◌, min, ◌≤◌, ◌<◌}
+use native.Mathlib.Nat.{add-zero, min-eq_left, min-eq_right, le-mul_of_pos_right, le-div_iff_mul-le}
 use native.Mathlib.Decide.{dec_lt}
 use native.Mathlib.Omega.{arith}
 use lib.ListN.{length, replicate}
-use borrow.Author.Tests.{eq-eqb, ne_eqb}
 use Rattle.layout.specs.Bytes.{num, bytes, over, put}
-use Rattle.layout.specs.Blocks.{place, slot, slot_place, first_free, wide, narrow, next, taken}
+use Rattle.layout.specs.Blocks.{place, first_free, next, taken}
 use Rattle.layout.specs.Ranges.{Small}
 use Rattle.laws.proofs.ByteLaws.{num_past, over_past}
 use Rattle.layout.specs.declared.Shape.{Shape}
@@ -39,9 +38,6 @@ module _ (c : List ℕ) (base size : ℕ) (whole : length c ≤ cap) (some : 1 �
         rw (min-eq_right {n = cap} {m = b} l) (over_past vs c _ (far cap j (omega arith)) ∙ sym (over_past vs c _ (far b j l))))
   ]
 
-pub place_fits : (base size b : ℕ) → base ≤ 1024 → size ≤ 4096 → b ≤ cap → base + b * size ≤ 17592186045440
-place_fits base size b h k m = omega (arith, mul-le-mul m k)
-
 module _ (c : List ℕ) (s : Shape) (h : Small c s) where
   some : 1 ≤ s.size
   some = omega (arith, h.least)
@@ -68,28 +64,3 @@ module _ (size : ℕ) (least : 64 ≤ size) where
 
   pub fan_two : 2 ≤ size / 4
   fan_two = omega (arith, fan_four)
-
-  pub slot_small : (j : ℕ) → size ≤ 4096 → j % (size / 4) ≤ 4096
-  slot_small j most = omega (arith, mod-lt j fan_pos)
-
-  pub slot-near : (j : ℕ) → size ≤ 4096 → j % (size / 4) ≤ cap
-  slot-near j most = omega (arith, slot_small j most)
-
--- ---- links
-
-pub wide_end : (b : ℕ) → b ≡ 0xffff_ffff → 0xffff_ffff_ffff_ffff ≡ wide b
-wide_end b e = rw (eq-eqb b 0xffff_ffff e)
-
-pub wide_else : (b : ℕ) → (b ≡ 0xffff_ffff → ⊥) → b ≡ wide b
-wide_else b e = rw (ne_eqb b 0xffff_ffff e)
-
-pub narrow_end : (b : ℕ) → b ≡ 0xffff_ffff_ffff_ffff → 0xffff_ffff ≡ narrow b
-narrow_end b e = rw (eq-eqb b 0xffff_ffff_ffff_ffff e)
-
-pub narrow_else : (b : ℕ) → (b ≡ 0xffff_ffff_ffff_ffff → ⊥) → b ≡ narrow b
-narrow_else b e = rw (ne_eqb b 0xffff_ffff_ffff_ffff e)
-
--- the link is the first slot
-pub next-slot : (c : List ℕ) (s : Shape) (b r v : ℕ) → v ≡ slot c s b 0 → r ≡ wide v → r ≡ next c s b
-unfolding next
-next-slot c s b r v e f = let p : slot_place s b 0 ≡ place s b = omega arith in rw (f, e, p)

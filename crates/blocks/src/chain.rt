@@ -8,26 +8,23 @@ use layout::Shape;
 use memory::bytes::{number, put_number};
 use memory::runs::clear;
 
+// All bits set, in the header's 8 bytes and in a link's 4: no block.
+pub const END8: usize = 0xffff_ffff_ffff_ffff;
+
+pub const END4: usize = 0xffff_ffff;
+
 // A link's number as the header would hold it.
 pub fn widened(b: usize) -> usize
     ensures { result ≡ wide b }
 {
-    if b == 0xffff_ffff {
-        0xffff_ffff_ffff_ffff
-    } else {
-        b
-    }
+    if b == END4 { END8 } else { b }
 }
 
 // The header's number as a link would hold it.
 pub fn narrowed(b: usize) -> usize
     ensures { result ≡ narrow b }
 {
-    if b == 0xffff_ffff_ffff_ffff {
-        0xffff_ffff
-    } else {
-        b
-    }
+    if b == END8 { END4 } else { b }
 }
 
 pub fn first_free(card: &[u8], s: Shape) -> usize
@@ -50,13 +47,11 @@ pub fn enough(card: &[u8], s: Shape, n: usize) -> bool
     ensures { result ≡ enough card.now s n }
 {
     let mut b = first_free(&*card, s);
-    let mut left = n;
-    while 0 < left {
-        if b == 0xffff_ffff_ffff_ffff {
+    for _ in 0..n {
+        if b == END8 {
             return false;
         }
         b = next(&*card, s, b);
-        left -= 1;
     }
     true
 }
@@ -68,9 +63,7 @@ pub fn take_block(card: &mut [u8], s: Shape) -> usize
 {
     let b = first_free(card, s);
     let after = next(card, s, b);
-    let size = s.size;
-    let first = s.first;
-    clear(card, place(s, b), size);
-    put_number(card, first, 8, after);
+    clear(card, place(s, b), s.size);
+    put_number(card, s.first, 8, after);
     b
 }

@@ -6,10 +6,9 @@ ghost use Rattle.layout.specs.Pyramid.{height};
 ghost use Rattle.layout.specs.Ranges.{Small};
 
 use crate::chain::take_block;
-use crate::places::put_slot;
+use crate::places::{fan, put_slot};
 use crate::reader::node;
 use layout::Shape;
-use memory::numbers::minus;
 use pyramids::pyramid::{find_stem, height};
 
 // Takes a block and names it in slot `j` of block `b`; answers it.
@@ -29,11 +28,9 @@ fn hang(card: &mut [u8], s: Shape, b: usize, j: usize, m: usize)
 {
     let mut from = b;
     let mut i = j;
-    let mut left = m;
-    while 0 < left {
+    for _ in 0..m {
         from = hook(card, s, from, i);
         i = 0;
-        left -= 1;
     }
 }
 
@@ -52,8 +49,8 @@ fn root(card: &mut [u8], s: Shape, top: usize, h: usize, d: usize)
     requires { Small card.old s × (0 < h) }
     ensures { card.new ≡ rooted card.old s top h d }
 {
-    let at = find_stem(s.size / 4, h, d);
-    let b = node(card, s, top, minus(h, at.m), at.q);
+    let at = find_stem(fan(s), h, d);
+    let b = node(card, s, top, h.saturating_sub(at.m), at.q);
     hang(card, s, b, at.i, at.m);
 }
 
@@ -65,13 +62,13 @@ fn grow_one(card: &mut [u8], s: Shape, top: usize, d: usize, before: usize, afte
     if d == 0 {
         return take_block(card, s);
     }
-    if before < after {
-        let above = raise(card, s, top);
-        root(card, s, above, after, d);
-        return above;
-    }
-    root(card, s, top, after, d);
-    top
+    let above = if before < after {
+        raise(card, s, top)
+    } else {
+        top
+    };
+    root(card, s, above, after, d);
+    above
 }
 
 // Adds `m` data blocks after the first `d`; answers the top.
@@ -79,17 +76,13 @@ pub fn grow(card: &mut [u8], s: Shape, top: usize, d: usize, m: usize) -> usize
     requires { Small card.old s × (d < 2 ^ 61) × (m < 2 ^ 61) }
     ensures { (result ≡ (grown card.old s top d m).top) × (card.new ≡ (grown card.old s top d m).card) }
 {
-    let f = s.size / 4;
+    let f = fan(s);
     let mut h = height(f, d);
     let mut t = top;
-    let mut k = d;
-    let mut left = m;
-    while 0 < left {
+    for k in d..d + m {
         let before = h;
         h = height(f, k + 1);
         t = grow_one(card, s, t, k, before, h);
-        k += 1;
-        left -= 1;
     }
     t
 }
@@ -102,8 +95,7 @@ pub fn lowered_top(card: &[u8], s: Shape, top: usize, d: usize, d2: usize) -> us
     if d2 == 0 {
         return 0;
     }
-    let f = s.size / 4;
-    let h = height(f, d);
-    let h2 = height(f, d2);
-    node(&*card, s, top, minus(h, h2), 0)
+    let f = fan(s);
+    let levels = height(f, d).saturating_sub(height(f, d2));
+    node(&*card, s, top, levels, 0)
 }

@@ -1,13 +1,15 @@
 -- What the searches find, in the words of the definitions: the entry that `look_in` names, and the one with a number.
-use mathlib.Core.Path.{◌≡◌, sym, ◌∙◌}
+use mathlib.Core.Path.{◌≡◌, refl, ◌∙◌}
 use mathlib.Core.Bool.{Bool, true, false}
 use mathlib.Core.List.{List, [], ◌∷◌}
-use Prim.Native.Nat.{ℕ, zero, suc, ◌+◌, ◌<◌}
+use Rattle.std.specs.Prelude.{Option, Some, None}
+use Prim.Native.Nat.{ℕ, zero, suc, ◌+◌, ◌≤◌, ◌<◌}
 use native.Mathlib.Decide.{dec_le}
 use native.Mathlib.Omega.{arith}
 use lib.ListN.{length, get_or, take, drop, length-take}
 use lib.Seq.{take_all}
 use lib.Dec.{ltb, leb-suc-suc, leb-suc-zero}
+use borrow.Author.Tests.{ltb-true, ltb-false}
 use Rattle.layout.specs.Bytes.{pick, same}
 use Rattle.layout.specs.Filing.{Entry, name_length, entry_at, entries_from, entries, look_in, nothing}
 use Rattle.laws.proofs.Picks.{leb_yes, leb_no}
@@ -15,46 +17,80 @@ use Rattle.filing.specs.Located.{located, numbered}
 use Rattle.filing.specs.declared.entries.Found.{Found}
 use Rattle.filing.specs.declared.listing.Row.{Row}
 
--- entry number i, as the search for a name tells it when n entries stand before
-abbrev pub found_at : List Entry → ℕ → ℕ → Found
-found_at es i n = record { number = n + i; index = (get_or es i nothing).index; at = (get_or es i nothing).at; known = ltb i (length es) }
+-- entry number i, as the search for a name tells it when n entries stand before, and as the search for a number does
+abbrev pub found_entry : List Entry → ℕ → ℕ → Found
+found_entry es i n = record { number = n + i; index = (get_or es i nothing).index; at = (get_or es i nothing).at }
 
-abbrev pub row_at : List Entry → ℕ → Row
-row_at es i = record { index = (get_or es i nothing).index; at = (get_or es i nothing).at; length = length (get_or es i nothing).name; there = ltb i (length es) }
+abbrev pub row_entry : List Entry → ℕ → Row
+row_entry es i = record { index = (get_or es i nothing).index; at = (get_or es i nothing).at; length = length (get_or es i nothing).name }
+
+abbrev pub found_at : List Entry → ℕ → ℕ → Option Found
+found_at es i n = pick (ltb i (length es)) (Some (found_entry es i n)) None
+
+abbrev pub row_at : List Entry → ℕ → Option Row
+row_at es i = pick (ltb i (length es)) (Some (row_entry es i)) None
 
 found_later : (e : Entry) (es : List Entry) (i n : ℕ) → found_at es i (n + 1) ≡ found_at (e ∷ es) (suc i) n
 found_later e es i n =
     let a : n + 1 + i ≡ n + suc i = omega arith in
-    let b : ltb i (length es) ≡ ltb (suc i) (suc (length es)) = sym (leb-suc-suc (suc i) (length es)) in
-    λ j. record { number = a j; index = (get_or es i nothing).index; at = (get_or es i nothing).at; known = b j }
+    rw (a, leb-suc-suc (suc i) (length es))
 
 -- the search for a name ends where `look_in` does
 pub located_is : (es : List Entry) (name : List ℕ) (n : ℕ) → located es name n ≡ found_at es (look_in es name) n
 unfolding located look_in
-located_is [] name n =
-    let a : n ≡ n + 0 = omega arith in
-    let b : false ≡ ltb 0 0 = sym (leb-suc-zero 0) in
-    λ j. record { number = a j; index = 0; at = 0; known = b j }
+located_is [] name n = refl
 located_is (e ∷ es) name n = go (same e.name name) (located_is es name (n + 1))
   where
     go : (t : Bool) → located es name (n + 1) ≡ found_at es (look_in es name) (n + 1)
-        → (let f : Found = pick t (record { number = n; index = e.index; at = e.at; known = true }) (located es name (n + 1)) in f) ≡ found_at (e ∷ es) (pick t 0 (suc (look_in es name))) n
+        → pick t (Some (record { number = n; index = e.index; at = e.at })) (located es name (n + 1)) ≡ found_at (e ∷ es) (pick t 0 (suc (look_in es name))) n
     go true h =
-        let a : n ≡ n + 0 = omega arith in
-        let b : true ≡ ltb 0 (suc (length es)) = sym (leb_yes {a = 1} {b = suc (length es)} (omega arith)) in
-        λ j. record { number = a j; index = e.index; at = e.at; known = b j }
+        let a : n + 0 ≡ n = omega arith in
+        rw (leb_yes {a = 1} {b = suc (length es)} (omega arith), a)
     go false h = h ∙ found_later e es (look_in es name) n
 
 -- the entry with a number, or that there are not so many
 pub numbered_is : (es : List Entry) (n : ℕ) → numbered es n ≡ row_at es n
 unfolding numbered
-numbered_is [] n = let b : false ≡ ltb n 0 = sym (leb-suc-zero n) in λ j. record { index = 0; at = 0; length = 0; there = b j }
-numbered_is (e ∷ es) zero =
-    let b : true ≡ ltb 0 (suc (length es)) = sym (leb_yes {a = 1} {b = suc (length es)} (omega arith)) in
-    λ j. record { index = e.index; at = e.at; length = length e.name; there = b j }
-numbered_is (e ∷ es) (suc n) =
-    let b : ltb n (length es) ≡ ltb (suc n) (suc (length es)) = sym (leb-suc-suc (suc n) (length es)) in
-    numbered_is es n ∙ (λ j. record { index = (get_or es n nothing).index; at = (get_or es n nothing).at; length = length (get_or es n nothing).name; there = b j })
+numbered_is [] n = rw (leb-suc-zero n)
+numbered_is (e ∷ es) zero = rw (leb_yes {a = 1} {b = suc (length es)} (omega arith))
+numbered_is (e ∷ es) (suc n) = numbered_is es n ∙ rw (leb-suc-suc (suc n) (length es))
+
+-- ---- what an answer says
+
+module _ {A : Type 0} (b : Bool) (x : A) where
+  chosen : (y : A) → Some y ≡ pick b (Some x) None → (b ≡ true) × (y ≡ x)
+  chosen y e = go b e
+    where
+      go : (t : Bool) → Some y ≡ pick t (Some x) None → (t ≡ true) × (y ≡ x)
+      go true u = (refl, cc)
+      go false u = absurd (cc)
+
+  unchosen : None ≡ pick b (Some x) None → b ≡ false
+  unchosen e = go b e
+    where
+      go : (t : Bool) → None ≡ pick t (Some x) None → t ≡ false
+      go true u = absurd (cc)
+      go false u = refl
+
+module _ (es : List Entry) (name : List ℕ) (n : ℕ) where
+  -- a name that is found is known, and stands where `look_in` says
+  pub found_known : {f : Found} → Some f ≡ located es name n → (look_in es name < length es) × (f ≡ found_entry es (look_in es name) n)
+  found_known {f = f} e =
+      let w = chosen (ltb (look_in es name) (length es)) (found_entry es (look_in es name) n) f (e ∙ located_is es name n) in
+      (ltb-true (look_in es name) (length es) w.0, w.1)
+
+  pub not_found : None ≡ located es name n → length es ≤ look_in es name
+  not_found e = ltb-false (look_in es name) (length es) (unchosen (ltb (look_in es name) (length es)) (found_entry es (look_in es name) n) (e ∙ located_is es name n))
+
+module _ (es : List Entry) (n : ℕ) where
+  -- an entry by its number is there, or there are not so many
+  pub row_there : {r : Row} → Some r ≡ numbered es n → (n < length es) × (r ≡ row_entry es n)
+  row_there {r = r} e =
+      let w = chosen (ltb n (length es)) (row_entry es n) r (e ∙ numbered_is es n) in
+      (ltb-true n (length es) w.0, w.1)
+
+  pub no_row : None ≡ numbered es n → length es ≤ n
+  no_row e = ltb-false n (length es) (unchosen (ltb n (length es)) (row_entry es n) (e ∙ numbered_is es n))
 
 -- ---- an entry's name is where the entry says
 

@@ -1,6 +1,7 @@
 -- Entries: a head on a page, and the search going from one to the next.
 use mathlib.Core.Path.{◌≡◌, refl, ap, ◌∙◌}
 use mathlib.Core.Bool.{Bool, true, false}
+use Rattle.std.specs.Prelude.{Option, Some, None}
 use mathlib.Core.List.{List, [], ◌∷◌}
 use Prim.Native.Nat.{ℕ, zero, suc, ◌+◌, ◌-◌, min, ◌≤◌, ◌<◌}
 use native.Mathlib.Numerals.{sub-one}
@@ -47,7 +48,7 @@ module _ (r : List ℕ) where
   entries_stop at h = entries_bound (length r) 0 at (omega arith) (omega arith)
 
   module _ (name : List ℕ) (size at n i l : ℕ) (b : Bool) (long : size ≡ length r) (inside : at < size) (e : i ≡ num 4 r at) (f : l ≡ name_length r at) (g : b ≡ same (entry_at r at).name name) where
-    pub find_here : b ≡ true → record { number = n; index = i; at = at; known = true } ≡ located (entries_from (length r) r at) name n
+    pub find_here : b ≡ true → Some (record { number = n; index = i; at = at }) ≡ located (entries_from (length r) r at) name n
     unfolding located
     find_here t = rw (entries-step at (omega arith), ← g, t, e)
 
@@ -55,30 +56,30 @@ module _ (r : List ℕ) where
     unfolding located
     find-next t = rw (entries-step at (omega arith), ← g, t, f)
 
-  pub find_none : (name : List ℕ) (at n m : ℕ) (f : Found) → located (entries_from (length r) r at) name n ≡ f → m ≡ length r → m ≤ at → record { number = n; index = 0; at = 0; known = false } ≡ f
+  pub find_none : (name : List ℕ) (at n m : ℕ) (f : Option Found) → located (entries_from (length r) r at) name n ≡ f → m ≡ length r → m ≤ at → None ≡ f
   unfolding located
   find_none name at n m f t e h = rw (entries_stop at (omega arith)) at t
 
   -- ---- by number
 
   module _ (size at i l : ℕ) (long : size ≡ length r) (inside : at < size) (e : i ≡ num 4 r at) (f : l ≡ name_length r at) where
-    pub nth_here : (n k m : ℕ) → n ≡ 0 → k ≡ size - (at + 6) → m ≡ min l k → record { index = i; at = at; length = m; there = true } ≡ numbered (entries_from (length r) r at) n
+    pub nth_here : (n k m : ℕ) → n ≡ 0 → k ≡ size - (at + 6) → m ≡ min l k → Some (record { index = i; at = at; length = m }) ≡ numbered (entries_from (length r) r at) n
     unfolding numbered
     nth_here n k m z u v =
         let w : m ≡ length (take (name_length r at) (drop (at + 6) r)) = rw (length-take, length-drop, ← f) (omega arith) in
-        rw (entries-step at (omega arith), z) (λ j. record { index = e j; at = at; length = w j; there = true })
+        rw (entries-step at (omega arith), z) (λ j. Some (record { index = e j; at = at; length = w j }))
 
     pub nth_next : (n : ℕ) → (n ≡ 0 → ⊥) → numbered (entries_from (length r) r (at + 6 + l)) (n - 1) ≡ numbered (entries_from (length r) r at) n
     unfolding numbered
     nth_next zero z = absurd (z refl)
     nth_next (suc n) z = rw (entries-step at (omega arith), sub-one (suc n), f)
 
-  pub nth_none : (at n m : ℕ) (f : Row) → numbered (entries_from (length r) r at) n ≡ f → m ≡ length r → m ≤ at → record { index = 0; at = 0; length = 0; there = false } ≡ f
+  pub nth_none : (at n m : ℕ) (f : Option Row) → numbered (entries_from (length r) r at) n ≡ f → m ≡ length r → m ≤ at → None ≡ f
   unfolding numbered
   nth_none at n m f t e h = rw (entries_stop at (omega arith)) at t
 
 -- ---- in a directory
 
-pub looked_up : (c name : List ℕ) (s : Shape) (k : ℕ) (t : Desc) (f : Found) → t ≡ stream c s k → f ≡ located (entries (contents c s t.top (data_of s t) t.size)) name 0 → f ≡ located (entries_of c s k) name 0
+pub looked_up : (c name : List ℕ) (s : Shape) (k : ℕ) (t : Desc) (f : Option Found) → t ≡ stream c s k → f ≡ located (entries (contents c s t.top (data_of s t) t.size)) name 0 → f ≡ located (entries_of c s k) name 0
 unfolding entries_of stream_bytes
 looked_up c name s k t f e g = rw e at g

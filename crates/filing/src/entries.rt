@@ -20,13 +20,12 @@ pub struct Head {
     pub length: usize,
 }
 
-// Where a name is: the entry's number, its stream's index, where it starts; or that it is not known.
+// Where a name is: the entry's number, its stream's index, where it starts.
 #[derive(Clone, Copy)]
 pub struct Found {
     pub number: usize,
     pub index: usize,
     pub at: usize,
-    pub known: bool,
 }
 
 // The head of the entry that `piece` starts with.
@@ -39,8 +38,8 @@ pub fn read_head(piece: &[u8]) -> Head
     }
 }
 
-// The name's place in the directory that `t` describes.
-pub fn find(card: &[u8], s: Shape, t: Desc, name: &[u8]) -> Found
+// The name's place in the directory that `t` describes, where it is known.
+pub fn find(card: &[u8], s: Shape, t: Desc, name: &[u8]) -> Option<Found>
     requires { Small card.now s × (t.size < 2 ^ 62) × (length name.now ≤ 64) }
     ensures { result ≡ located (entries (contents card.now s t.top (data_of s t) t.size)) name.now 0 }
 {
@@ -48,33 +47,27 @@ pub fn find(card: &[u8], s: Shape, t: Desc, name: &[u8]) -> Found
     let mut page = [0; PAGE];
     let mut from = size;
     let mut at = 0;
-    let mut n = 0;
+    let mut number = 0;
     while at < size {
         from = turn(&*card, s, t, &mut page, from, at);
         let o = at - from;
         let e = o + least(PIECE, size - at);
         let h = read_head(&page[o..e]);
         if name_is(&page[o..e], &*name) {
-            return Found {
-                number: n,
+            return Some(Found {
+                number,
                 index: h.index,
-                at: at,
-                known: true,
-            };
+                at,
+            });
         }
         at = at + 6 + h.length;
-        n += 1;
+        number += 1;
     }
-    Found {
-        number: n,
-        index: 0,
-        at: 0,
-        known: false,
-    }
+    None
 }
 
-// The name's place in directory `k`.
-pub fn look_up(card: &[u8], s: Shape, k: usize, name: &[u8]) -> Found
+// The name's place in directory `k`, where it is known.
+pub fn look_up(card: &[u8], s: Shape, k: usize, name: &[u8]) -> Option<Found>
     requires { Small card.now s × (k < 2 ^ 56) × (length name.now ≤ 64) × ((stream card.now s k).size < 2 ^ 62) }
     ensures { result ≡ located (entries_of card.now s k) name.now 0 }
 {

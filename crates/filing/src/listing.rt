@@ -1,5 +1,5 @@
 // An entry by its number.
-ghost use Rattle.std.specs.Prelude.{◌≡◌, ◌^◌, ◌<◌, ◌≤◌};
+ghost use Rattle.std.specs.Prelude.{◌≡◌, ◌^◌, ◌<◌, ◌≤◌, IfSome};
 ghost use Rattle.layout.specs.Streams.{data_of, contents};
 ghost use Rattle.layout.specs.Filing.{entries};
 ghost use Rattle.layout.specs.Ranges.{Small};
@@ -10,19 +10,19 @@ use crate::pages::{PAGE, PIECE, turn};
 use layout::{Desc, Shape};
 use memory::numbers::{least, minus};
 
-// An entry: its stream's index, where it starts, its name's length; or that there is none.
+// An entry: its stream's index, where it starts, its name's length.
 #[derive(Clone, Copy)]
 pub struct Row {
     pub index: usize,
     pub at: usize,
     pub length: usize,
-    pub there: bool,
 }
 
-// Entry number `n` of the directory that `t` describes.
-pub fn nth_entry(card: &[u8], s: Shape, t: Desc, n: usize) -> Row
+// Entry number `n` of the directory that `t` describes, where there is one.
+pub fn nth_entry(card: &[u8], s: Shape, t: Desc, n: usize) -> Option<Row>
     requires { Small card.now s × (t.size < 2 ^ 62) }
-    ensures { (result ≡ numbered (entries (contents card.now s t.top (data_of s t) t.size)) n) × (result.at ≤ t.size) }
+    ensures numbered { result ≡ numbered (entries (contents card.now s t.top (data_of s t) t.size)) n }
+    ensures at { IfSome result (λ row. row.at ≤ t.size) }
 {
     let size = t.size;
     let mut page = [0; PAGE];
@@ -35,20 +35,14 @@ pub fn nth_entry(card: &[u8], s: Shape, t: Desc, n: usize) -> Row
         let e = o + least(PIECE, size - at);
         let h = read_head(&page[o..e]);
         if left == 0 {
-            return Row {
+            return Some(Row {
                 index: h.index,
-                at: at,
+                at,
                 length: least(h.length, minus(size, at + 6)),
-                there: true,
-            };
+            });
         }
         at = at + 6 + h.length;
         left -= 1;
     }
-    Row {
-        index: 0,
-        at: 0,
-        length: 0,
-        there: false,
-    }
+    None
 }

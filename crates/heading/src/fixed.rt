@@ -1,4 +1,30 @@
-// The header's fixed values, as they stand on the card.
+// The header's places and fixed values, as they stand on the card.
+
+// L7: the bytes of the header, where block 0 starts.
+pub const HEAD_LENGTH: usize = 87;
+
+// L11: where the shift stands.
+pub const SHIFT: usize = 25;
+
+// L12: where the bytes of an index stand.
+pub const INDEX_WIDTH: usize = 26;
+
+// L13: where the first-free field stands.
+pub const FIRST_FREE: usize = 27;
+
+// L14: where the fixed values after the first-free field start.
+pub const STREAM: usize = 35;
+
+// L16: where the table's descriptor stands.
+pub const TABLE: usize = 45;
+
+// L17: where the filing header starts.
+pub const FILING: usize = 70;
+
+// L23: the shifts that are allowed.
+pub const LEAST_SHIFT: usize = 6;
+
+pub const MOST_SHIFT: usize = 12;
 
 // L8 to L10: before the shift. What the layers are, and their versions.
 pub const FIRST: [u8; 25] = [

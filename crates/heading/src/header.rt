@@ -1,114 +1,84 @@
 // Rules 1 to 3: the header's fixed values, and the shape that it gives the card.
-ghost use Rattle.std.specs.Prelude.{◌≡◌, ◌^◌, ◌≤◌};
-ghost use Rattle.layout.specs.Bytes.{matches};
-ghost use Rattle.layout.specs.Header.{head1, head2, head3, head4, shift_of, shape_of};
+ghost use Rattle.std.specs.Prelude.{◌≡◌, ◌<◌, ◌≤◌};
+ghost use Rattle.layout.specs.Header.{good_rest, good_shape, shaped, shift_of, shape_of};
 ghost use Rattle.layout.specs.Sound.{rule1, rule2, rule3};
 
-use crate::fixed::{FIRST, FOURTH, SECOND, THIRD};
+use crate::fixed::{
+    FILING, FIRST, FIRST_FREE, FOURTH, HEAD_LENGTH, INDEX_WIDTH, LEAST_SHIFT, MOST_SHIFT, SECOND,
+    SHIFT, STREAM, TABLE, THIRD,
+};
 use layout::Shape;
+use layout::limits::most_blocks;
 use memory::bytes::byte;
-use memory::numbers::{minus, wide};
 use memory::runs::matches;
 
 // Rule 1: there is a header.
+#[tactic(auto, unfolding(layout::specs::Sound::rule1))]
 pub fn rule1(card: &[u8]) -> bool
     ensures { result ≡ rule1 card.now }
 {
-    87 <= card.len()
-}
-
-// The fixed values before the shift: what the layers are, and their versions.
-fn first_part(card: &[u8]) -> bool
-    ensures { result ≡ matches card.now 0 head1 }
-{
-    matches(&*card, 0, &FIRST)
-}
-
-// The bytes of an index.
-fn second_part(card: &[u8]) -> bool
-    ensures { result ≡ matches card.now 26 head2 }
-{
-    matches(&*card, 26, &SECOND)
-}
-
-// The fixed values after the first-free field.
-fn third_part(card: &[u8]) -> bool
-    ensures { result ≡ matches card.now 35 head3 }
-{
-    matches(&*card, 35, &THIRD)
-}
-
-// The fixed values after the table's descriptor.
-fn fourth_part(card: &[u8]) -> bool
-    ensures { result ≡ matches card.now 70 head4 }
-{
-    matches(&*card, 70, &FOURTH)
+    HEAD_LENGTH <= card.len()
 }
 
 // Rule 2: the fixed values are right.
+#[tactic(auto, unfolding(layout::specs::Sound::rule2, layout::specs::Header::fixed))]
 pub fn rule2(card: &[u8]) -> bool
     ensures { result ≡ rule2 card.now }
 {
-    if !first_part(&*card) {
-        return false;
-    }
-    if !second_part(&*card) {
-        return false;
-    }
-    if !third_part(&*card) {
-        return false;
-    }
-    fourth_part(&*card)
+    matches(card, 0, &FIRST)
+        && matches(card, INDEX_WIDTH, &SECOND)
+        && matches(card, STREAM, &THIRD)
+        && matches(card, FILING, &FOURTH)
 }
 
-// 2 to the power of the shift.
-pub fn power(shift: usize) -> usize
-    requires { shift ≤ 12 }
-    ensures { result ≡ 2 ^ shift }
+// Whether `rest` bytes are 1 to 4,096 whole blocks of `size` bytes.
+fn good_rest(rest: usize, size: usize) -> bool
+    requires { 0 < size }
+    ensures { result ≡ good_rest rest size }
 {
-    let mut n = 0;
-    let mut size = 1;
-    while n < shift {
-        size *= 2;
-        n += 1;
+    rest % size == 0 && 1 <= rest / size && rest / size <= most_blocks()
+}
+
+// Whether a card of `len` bytes can have blocks of 2 ^ `shift` bytes.
+#[tactic(auto, unfolding(layout::specs::Header::good_shape))]
+pub fn good_shape(len: usize, shift: usize) -> bool
+    ensures { result ≡ good_shape len shift }
+{
+    LEAST_SHIFT <= shift
+        && shift <= MOST_SHIFT
+        && HEAD_LENGTH <= len
+        && good_rest(len - HEAD_LENGTH, 1 << shift)
+}
+
+// How such a card is cut.
+pub fn cut(len: usize, shift: usize) -> Shape
+    requires { shift ≤ 12 }
+    ensures { result ≡ shaped len shift }
+{
+    let size = 1 << shift;
+    Shape {
+        base: HEAD_LENGTH,
+        size,
+        count: len.saturating_sub(HEAD_LENGTH) / size,
+        first: FIRST_FREE,
+        table: TABLE,
+        filing: FILING,
     }
-    size
 }
 
 // Rule 3: the shift is one of those that are allowed, and after the header come 1 to 4,096 whole blocks.
+#[tactic(auto, unfolding(layout::specs::Sound::rule3, layout::specs::Header::good_shape))]
 pub fn rule3(card: &[u8]) -> bool
     ensures { result ≡ rule3 card.now }
 {
-    let shift = wide(byte(&*card, 25));
-    if shift < 6 {
-        return false;
-    }
-    if 12 < shift {
-        return false;
-    }
-    let size = power(shift);
-    let rest = minus(card.len(), 87);
-    if rest % size != 0 {
-        return false;
-    }
-    if rest / size < 1 {
-        return false;
-    }
-    rest / size <= 4096
+    good_shape(card.len(), usize::from(byte(card, SHIFT)))
 }
 
 // How the card is cut, once the shift is known to be allowed.
+#[tactic(auto, unfolding(layout::specs::Header::shape_of))]
 pub fn shape(card: &[u8]) -> Shape
     requires { shift_of card.now ≤ 12 }
     ensures { result ≡ shape_of card.now }
 {
-    let size = power(wide(byte(&*card, 25)));
-    Shape {
-        base: 87,
-        size: size,
-        count: minus(card.len(), 87) / size,
-        first: 27,
-        table: 45,
-        filing: 70,
-    }
+    cut(card.len(), usize::from(byte(card, SHIFT)))
 }

@@ -6,7 +6,6 @@ ghost use Rattle.layout.specs.Ranges.{Small};
 
 use laying::gather::gather_stream;
 use layout::Shape;
-use memory::numbers::{least, minus};
 use stream::descs::stream;
 
 // Stream `k`'s size.
@@ -25,5 +24,5 @@ pub fn read(card: &[u8], s: Shape, k: usize, p: usize, tray: &mut [u8]) -> usize
     let t = stream(card, s, k);
     let n = tray.len();
     gather_stream(card, s, t, p, tray, 0, n);
-    least(n, minus(t.size, p))
+    n.min(t.size.saturating_sub(p))
 }

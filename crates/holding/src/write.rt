@@ -6,6 +6,7 @@ ghost use Rattle.layout.specs.Calls.{written_in, truncated_in};
 ghost use Rattle.layout.specs.Ranges.{Small};
 
 use layout::Shape;
+use layout::limits::MOST_BLOCKS;
 use stream::descs::stream;
 use stream::inside::lay_in_stream;
 use stream::lengths::{lengthen, shorten};
@@ -40,6 +41,6 @@ pub fn truncate(card: &mut [u8], s: Shape, k: usize, n: usize)
     if n == t.size {
         return;
     }
-    let mut marks = [0; 4096];
+    let mut marks = [0; MOST_BLOCKS];
     shorten(card, s, k, n, &mut marks);
 }

@@ -46,3 +46,4 @@ pub mod Adding
 pub mod Reuse
 pub mod Extend
 pub mod Undescribe
+pub mod RuleNumbers

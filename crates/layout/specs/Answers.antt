@@ -1,15 +1,11 @@
--- What a call answers, in numbers: the outcome of a call, and the numbers of each case of the answers' enums.
-use Rattle.std.specs.Prelude.{ℕ, List}
+-- What a call answers, in numbers: the outcome of a call, and the numbers of each answer and of each refusal.
+use Rattle.std.specs.Prelude.{ℕ, List, Result, Ok, Err, ⊤, eqb}
+use Rattle.layout.specs.Bytes.{pick}
+use Rattle.layout.specs.declared.answers.Rule.{Rule}
+use Rattle.layout.specs.declared.answers.Rule.TheVariants as rule
 use Rattle.layout.specs.declared.answers.Refusal.{Refusal}
 use Rattle.layout.specs.declared.answers.Refusal.TheVariants as no
-use Rattle.layout.specs.declared.answers.Done.{Done}
-use Rattle.layout.specs.declared.answers.Done.TheVariants as done'
-use Rattle.layout.specs.declared.answers.Counted.{Counted}
-use Rattle.layout.specs.declared.answers.Counted.TheVariants as counted'
-use Rattle.layout.specs.declared.answers.Sized.{Sized}
-use Rattle.layout.specs.declared.answers.Sized.TheVariants as sized'
 use Rattle.layout.specs.declared.answers.Listed.{Listed}
-use Rattle.layout.specs.declared.answers.Listed.TheVariants as listed'
 
 -- L118: a call's numbers, and what it leaves in card and tray
 pub record Outcome : Type 0 where
@@ -39,7 +35,23 @@ sized n c t = record { number = 0; rule = 0; count = 0; size = n; length = 0; ca
 abbrev pub listed : ℕ → ℕ → List ℕ → List ℕ → Outcome
 listed len n c t = record { number = 0; rule = 0; count = 0; size = n; length = len; card = c; tray = t }
 
--- ---- the numbers of each case (L138 to L147)
+-- ---- the numbers of each case (L77 to L113, L138 to L147)
+
+abbrev pub rule_number : Rule → ℕ
+rule_number rule.Length = 1
+rule_number rule.FixedValues = 2
+rule_number rule.Blocks = 3
+rule_number rule.Table = 4
+rule_number rule.Descriptors = 5
+rule_number rule.Pyramids = 6
+rule_number rule.FreeChain = 7
+rule_number rule.Root = 8
+
+-- the rule with a number from 1 to 8 (laws:RuleNumbers)
+unfoldable pub rule_at : ℕ → Rule
+rule_at n =
+    pick (eqb n 1) rule.Length (pick (eqb n 2) rule.FixedValues (pick (eqb n 3) rule.Blocks (pick (eqb n 4) rule.Table
+    (pick (eqb n 5) rule.Descriptors (pick (eqb n 6) rule.Pyramids (pick (eqb n 7) rule.FreeChain rule.Root))))))
 
 abbrev pub number_of : Refusal → ℕ
 number_of (no.Damaged r) = 1
@@ -53,7 +65,7 @@ number_of no.ShortTray = 8
 number_of no.BadShape = 9
 
 abbrev pub rule_of : Refusal → ℕ
-rule_of (no.Damaged r) = r
+rule_of (no.Damaged r) = rule_number r
 rule_of no.BadName = 0
 rule_of no.NotKnown = 0
 rule_of no.AlreadyKnown = 0
@@ -64,18 +76,18 @@ rule_of no.ShortTray = 0
 rule_of no.BadShape = 0
 
 -- an answer, with the card and the tray that it leaves, as an outcome
-abbrev pub said_done : Done → List ℕ → List ℕ → Outcome
-said_done done'.Done c t = done c t
-said_done (done'.Refused r) c t = refused (number_of r) (rule_of r) c t
+abbrev pub said_done : Result ⊤ Refusal → List ℕ → List ℕ → Outcome
+said_done (Ok u) c t = done c t
+said_done (Err why) c t = refused (number_of why) (rule_of why) c t
 
-abbrev pub said_counted : Counted → List ℕ → List ℕ → Outcome
-said_counted (counted'.Count n) c t = counted n c t
-said_counted (counted'.Refused r) c t = refused (number_of r) (rule_of r) c t
+abbrev pub said_counted : Result ℕ Refusal → List ℕ → List ℕ → Outcome
+said_counted (Ok n) c t = counted n c t
+said_counted (Err why) c t = refused (number_of why) (rule_of why) c t
 
-abbrev pub said_sized : Sized → List ℕ → List ℕ → Outcome
-said_sized (sized'.Size n) c t = sized n c t
-said_sized (sized'.Refused r) c t = refused (number_of r) (rule_of r) c t
+abbrev pub said_sized : Result ℕ Refusal → List ℕ → List ℕ → Outcome
+said_sized (Ok n) c t = sized n c t
+said_sized (Err why) c t = refused (number_of why) (rule_of why) c t
 
-abbrev pub said_listed : Listed → List ℕ → List ℕ → Outcome
-said_listed (listed'.Entry len n) c t = listed len n c t
-said_listed (listed'.Refused r) c t = refused (number_of r) (rule_of r) c t
+abbrev pub said_listed : Result Listed Refusal → List ℕ → List ℕ → Outcome
+said_listed (Ok entry) c t = listed entry.length entry.size c t
+said_listed (Err why) c t = refused (number_of why) (rule_of why) c t

@@ -2,10 +2,13 @@
 ghost use Rattle.std.specs.Prelude.{◌≡◌};
 ghost use Rattle.layout.specs.Limits.{most_blocks, most_streams, longest_name, slash};
 
+// So many marks do for every card.
+pub const MOST_BLOCKS: usize = 4096;
+
 pub fn most_blocks() -> usize
     ensures { result ≡ most_blocks }
 {
-    4096
+    MOST_BLOCKS
 }
 
 pub fn most_streams() -> usize

@@ -1,100 +1,102 @@
 -- The free chain, marked: the loop along it, and the definition's list.
 use mathlib.Core.Path.{◌≡◌, refl, sym, ap, ◌∙◌}
-use mathlib.Core.Bool.{Bool, true, false}
+use mathlib.Core.Bool.{Bool, true, false, not}
 use mathlib.Core.List.{List, [], ◌∷◌, ◌++◌}
 use Prim.Native.Nat.{ℕ, zero, suc, ◌+◌, ◌-◌, ◌≤◌, ◌<◌}
-use native.Mathlib.Numerals.{sub-one}
+use native.Mathlib.Numerals.{add-one}
 use native.Mathlib.Omega.{arith}
-use lib.ListN.{length, get_or, set}
+use lib.ListN.{length, get_or, set, take, length-set}
+use lib.Dec.{eqb}
 use borrow.Author.Tests.{eq-eqb, ne_eqb}
-use Rattle.layout.specs.Bytes.{end8, pick, separate}
+use Rattle.std.specs.Prelude.{Option, Some, None, count_by}
+use Rattle.std.proofs.lemmas.List.Sums.{count_by_more_yes, count_by_more_no}
+use Rattle.layout.specs.Bytes.{pick, end8, separate}
 use Rattle.layout.specs.Marks.{fresh, mark_ok, mark_set, falling_in}
 use Rattle.layout.specs.Blocks.{walk, next, first_free, chain}
 use Rattle.layout.specs.Sound.{used, rule7}
 use Rattle.laws.proofs.Marking.{mark-separate, mark-count}
 use Rattle.marking.proofs.Walking.{Marked, Rest, part_goes, one-marked, rest_goes, rest_stops, rest-ends}
-use Rattle.blocks.proofs.Links.{list_end, list_out, list-step, chain-start}
+use Rattle.blocks.proofs.Links.{list_end, list_out}
 use Rattle.usage.specs.Used.{InUse}
 use Rattle.layout.specs.declared.Shape.{Shape}
 
--- what is marked, and one more than its number
-abbrev pub Counted : ℕ → List ℕ → List ℕ → ℕ → List ℕ → Type 0
-Counted n m bs r m' = (r ≡ pick (mark_ok n m bs) (length bs + 1) 0) × (m' ≡ mark_set n m bs)
+-- ---- the chain
 
--- the walk so far: what is marked, and how many links are left of those that the whole has
-abbrev pub Along : List ℕ → Shape → ℕ → ℕ → List ℕ → List ℕ → Type 0
-Along c s left b m m₀ = (left ≤ s.count + 1) × Rest s.count m (walk left (next c s) b) m₀ (chain c s) × (s.count + 1 + length (walk left (next c s) b) ≡ left + length (chain c s))
+-- what is marked, and its number
+abbrev pub Counted : ℕ → List ℕ → List ℕ → Option ℕ → List ℕ → Type 0
+Counted n m bs r m' = (r ≡ pick (mark_ok n m bs) (Some (length bs)) None) × (m' ≡ mark_set n m bs)
 
-module _ (c : List ℕ) (s : Shape) (left b : ℕ) (m m₀ : List ℕ) (a : Along c s left b m m₀) where
-  all_of : walk left (next c s) b ≡ [] → (r : ℕ) → r + left ≡ s.count + 2 → Counted s.count m₀ (chain c s) r m
-  all_of e r f =
-      let p = rest-ends s.count m m₀ _ (chain c s) e a.1 in
-      (rw (← p.0) (omega (arith, f, a.2, ap length e)), p.1)
+-- the walk so far: what is marked, and how many links were found of those that the whole has
+pub record Along (c : List ℕ) (s : Shape) (left found b : ℕ) (m m₀ : List ℕ) : Type 0 where
+  pub rest : Rest s.count m (walk left (next c s) b) m₀ (chain c s)
+  pub links : found + length (walk left (next c s) b) ≡ length (chain c s)
 
-  pub chain-ends : b ≡ end8 → (r : ℕ) → r + left ≡ s.count + 2 → Counted s.count m₀ (chain c s) r m
+module _ (c : List ℕ) (s : Shape) (left found b : ℕ) (m m₀ : List ℕ) (a : Along c s left found b m m₀) where
+  all_of : walk left (next c s) b ≡ [] → Counted s.count m₀ (chain c s) (Some found) m
+  all_of e =
+      let p = rest-ends s.count m m₀ _ (chain c s) e a.rest in
+      let n : found ≡ length (chain c s) = omega (arith, a.links, ap length e) in
+      (rw (← p.0, n), p.1)
+
+  pub chain-ends : b ≡ end8 → Counted s.count m₀ (chain c s) (Some found) m
   chain-ends e = all_of (list_end (next c s) left b e)
 
-  pub chain_out : left ≤ 0 → Counted s.count m₀ (chain c s) (s.count + 2) m
-  chain_out h = all_of (list_out (next c s) left b h) (s.count + 2) (omega (arith, h))
+  pub chain_out : left ≤ 0 → (n : ℕ) → n ≡ found → Counted s.count m₀ (chain c s) (Some n) m
+  chain_out h n e = rw e (all_of (list_out (next c s) left b h))
 
-  module _ (more : 0 < left) (on : b ≡ end8 → ⊥) (m' : List ℕ) (r : Bool) (e : r ≡ fresh s.count m b) (f : m' ≡ pick (fresh s.count m b) (set m b 1) m) where
-    there : (b' : ℕ) → b' ≡ next c s b → Rest s.count m ((b ∷ []) ++ walk (left - 1) (next c s) b') m₀ (chain c s)
-    there b' g = rw (list-step (next c s) left b b' more on g) at a.1
+  module _ (less : ℕ) (more : left ≡ suc less) (on : b ≡ end8 → ⊥) (b' : ℕ) (g : b' ≡ next c s b) (m' : List ℕ) (r : Bool) (e : r ≡ fresh s.count m b)
+      (f : m' ≡ pick (fresh s.count m b) (set m b 1) m) where
+    step : walk left (next c s) b ≡ (b ∷ []) ++ walk less (next c s) b'
+    unfolding walk
+    step = rw (more, g, ne_eqb b end8 on)
 
-    pub chain-turn : (b' : ℕ) → b' ≡ next c s b → r ≡ true → Along c s (left - 1) b' m' m₀
-    chain-turn b' g h =
-        let d = ap length (list-step (next c s) left b b' more on g) in
-        (omega (arith, a.0), rest_goes s.count m m' m₀ (b ∷ []) _ (chain c s) r (one-marked s.count m m' b r e f) h (there b' g), omega (arith, a.2, d, more))
+    there : Rest s.count m ((b ∷ []) ++ walk less (next c s) b') m₀ (chain c s)
+    there = let d = a.rest in rw step at d
 
-    pub chain_stops : r ≡ false → Counted s.count m₀ (chain c s) 0 m'
-    chain_stops h = let p = rest_stops s.count m m' m₀ (b ∷ []) _ (chain c s) r (one-marked s.count m m' b r e f) h (there (next c s b) refl) in (rw (← p.0), p.1)
+    pub chain-turn : r ≡ true → Along c s less (found + 1) b' m' m₀
+    chain-turn h = record {
+      rest = rest_goes s.count m m' m₀ (b ∷ []) _ (chain c s) r (one-marked s.count m m' b r e f) h there;
+      links = omega (arith, a.links, ap length step);
+    }
 
-pub chain_begun : (c : List ℕ) (s : Shape) (b left : ℕ) (m : List ℕ) → b ≡ first_free c s → left ≡ s.count + 1 → Along c s left b m m
-chain_begun c s b left m e f = rw (f, chain-start c s b e) (omega arith, (refl, refl), refl)
+    pub chain_stops : r ≡ false → Counted s.count m₀ (chain c s) None m'
+    chain_stops h = let p = rest_stops s.count m m' m₀ (b ∷ []) _ (chain c s) r (one-marked s.count m m' b r e f) h there in (rw (← p.0), p.1)
+
+pub chain_begun : (c : List ℕ) (s : Shape) (left b : ℕ) (m : List ℕ) → left ≡ s.count + 1 → b ≡ first_free c s → Along c s left 0 b m m
+unfolding chain
+chain_begun c s left b m h e = rw (h, e) (record { rest = (refl, refl); links = omega arith })
 
 -- ---- counting the marks
 
-fall_skip : (m : List ℕ) (x l : ℕ) → 1 ≤ l → x ≡ get_or m (l - 1) 0 → x ≡ 0 → falling_in (l - 1) m ≡ falling_in l m
+abbrev pub is_marked : ℕ → Bool
+is_marked x = not (eqb x 0)
+
+pub marks-counted : (n : ℕ) (m : List ℕ) → n ≤ length m → count_by is_marked (take n m) ≡ length (falling_in n m)
 unfolding falling_in
-fall_skip m x zero h e z = elim h [ ]
-fall_skip m x (suc l) h e z = rw (sub-one (suc l), ← rw (sub-one (suc l)) at e, eq-eqb x 0 z)
+marks-counted zero m h = refl
+marks-counted (suc n) m h = by (marks-counted n m (omega arith)) (eqb (get_or m n 0) 0) refl
+  where
+    by : count_by is_marked (take n m) ≡ length (falling_in n m) → (t : Bool) → eqb (get_or m n 0) 0 ≡ t
+        → count_by is_marked (take (suc n) m) ≡ length (pick (eqb (get_or m n 0) 0) (falling_in n m) (n ∷ falling_in n m))
+    by is true e = rw (e, ← add-one n, count_by_more_no is_marked m n 0 (omega arith) (rw e)) is
+    by is false e = rw (e, ← add-one n, count_by_more_yes is_marked m n 0 (omega arith) (rw e)) (omega (arith, is))
 
-fall_take : (m : List ℕ) (x l : ℕ) → 1 ≤ l → x ≡ get_or m (l - 1) 0 → (x ≡ 0 → ⊥) → (l - 1) ∷ falling_in (l - 1) m ≡ falling_in l m
-unfolding falling_in
-fall_take m x zero h e z = elim h [ ]
-fall_take m x (suc l) h e z = rw (sub-one (suc l), ← rw (sub-one (suc l)) at e, ne_eqb x 0 z)
+length-marks : (n : ℕ) (bs m : List ℕ) → length (mark_set n m bs) ≡ length m
+unfolding mark_set
+length-marks n [] m = refl
+length-marks n (b ∷ bs) m = by (length-marks n bs (set m b 1)) (fresh n m b)
+  where
+    by : length (mark_set n (set m b 1) bs) ≡ length (set m b 1) → (t : Bool) → length (pick t (mark_set n (set m b 1) bs) m) ≡ length m
+    by is true = is ∙ length-set m b 1
+    by is false = refl
 
-module _ (m : List ℕ) (left x : ℕ) (more : 1 ≤ left) (e : x ≡ get_or m (left - 1) 0) where
-  pub count_none : x ≡ 0 → length (falling_in (left - 1) m) ≡ length (falling_in left m)
-  count_none z = ap length (fall_skip m x left more e z)
-
-  pub count-one : (x ≡ 0 → ⊥) → suc (length (falling_in (left - 1) m)) ≡ length (falling_in left m)
-  count-one z = ap length (fall_take m x left more e z)
-
-pub count-done : (m : List ℕ) (left found n : ℕ) → left ≤ 0 → found + length (falling_in left m) ≡ n → found ≡ n
-unfolding falling_in
-count-done m zero found n h e = omega arith
-count-done m (suc left) found n h e = absurd (omega arith)
-
--- ---- a number that is one more, or 0
-
-module _ (b : Bool) (r n : ℕ) (g : r ≡ pick b (n + 1) 0) where
-  pub picked_none : r ≡ 0 → b ≡ false
-  picked_none e = by_test b (sym e ∙ g) where
-    by_test : (b : Bool) → 0 ≡ pick b (n + 1) 0 → b ≡ false
-    by_test true d = absurd (omega arith)
-    by_test false d = refl
-
-  pub picked_some : (r ≡ 0 → ⊥) → (b ≡ true) × (r ≡ n + 1)
-  picked_some h = by_test b g where
-    by_test : (b : Bool) → r ≡ pick b (n + 1) 0 → (b ≡ true) × (r ≡ n + 1)
-    by_test true d = (refl, d)
-    by_test false d = absurd (h d)
+pub marks-long : (c : List ℕ) (s : Shape) (m : List ℕ) → InUse c s m → s.count ≤ length m
+marks-long c s m u = omega (arith, u.long, ap length u.marks, length-marks s.count (used c s) u.start)
 
 -- ---- rule 7
 
 -- with the blocks in use marked before, it is the definition's
-module _ (c : List ℕ) (s : Shape) (m m' : List ℕ) (r : ℕ) (in_use : InUse c s m) (p : Counted s.count m (chain c s) r m') where
+module _ (c : List ℕ) (s : Shape) (m m' : List ℕ) (r : Option ℕ) (in_use : InUse c s m) (p : Counted s.count m (chain c s) r m') where
   abbrev all : List ℕ
   all = used c s ++ chain c s
 
@@ -107,25 +109,36 @@ module _ (c : List ℕ) (s : Shape) (m m' : List ℕ) (r : ℕ) (in_use : InUse 
   all-ok : ok ≡ separate s.count all
   all-ok = all-marked.0 ∙ mark-separate s.count in_use.start in_use.long in_use.zeros all
 
-  -- one more than the free blocks, or that the rule is broken
-  abbrev answer : ℕ
-  answer = pick (rule7 c s) (length (chain c s) + 1) 0
+  -- the number of the free blocks, or that the rule is broken
+  abbrev answer : Option ℕ
+  answer = pick (rule7 c s) (Some (length (chain c s))) None
 
-  pub chain_apart : r ≡ 0 → 0 ≡ answer
+  none_is : r ≡ None → ok ≡ false
+  none_is e = by ok (sym p.0 ∙ e)
+    where
+      by : (t : Bool) → pick t (Some (length (chain c s))) None ≡ None → t ≡ false
+      by true d = cc
+      by false d = refl
+
+  pub chain_apart : r ≡ None → None ≡ answer
   unfolding rule7
-  chain_apart e = rw (← all-ok, picked_none ok r (length (chain c s)) p.0 e)
+  chain_apart e = rw (← all-ok, none_is e)
 
-  module _ (h : r ≡ 0 → ⊥) (k : ℕ) (e : k ≡ length (falling_in s.count m')) where
-    picked : (ok ≡ true) × (r ≡ length (chain c s) + 1)
-    picked = picked_some ok r (length (chain c s)) p.0 h
+  module _ (x : ℕ) (e : r ≡ Some x) (k : ℕ) (f : k ≡ count_by is_marked (take s.count m')) where
+    some_is : (ok ≡ true) × (x ≡ length (chain c s))
+    some_is = by ok (sym e ∙ p.0)
+      where
+        by : (t : Bool) → Some x ≡ pick t (Some (length (chain c s))) None → (t ≡ true) × (x ≡ length (chain c s))
+        by true d = (refl, cc)
+        by false d = cc
 
-    marked : k ≡ length all
-    marked = e ∙ rw all-marked.1 (mark-count s.count in_use.start in_use.long in_use.zeros all (sym all-marked.0 ∙ picked.0))
+    marked : s.count ≤ length m' → k ≡ length all
+    marked h = f ∙ marks-counted s.count m' h ∙ rw all-marked.1 (mark-count s.count in_use.start in_use.long in_use.zeros all (sym all-marked.0 ∙ some_is.0))
 
-    pub some-over : (k ≡ s.count → ⊥) → 0 ≡ answer
+    pub some-over : s.count ≤ length m' → (k ≡ s.count → ⊥) → None ≡ answer
     unfolding rule7
-    some-over d = rw (← all-ok, picked.0, ← marked, ne_eqb k s.count d)
+    some-over h d = rw (← all-ok, some_is.0, ← marked h, ne_eqb k s.count d)
 
-    pub none_over : k ≡ s.count → r ≡ answer
+    pub none_over : s.count ≤ length m' → k ≡ s.count → Some x ≡ answer
     unfolding rule7
-    none_over d = rw (← all-ok, picked.0, ← marked, eq-eqb k s.count d) picked.1
+    none_over h d = rw (← all-ok, some_is.0, ← marked h, eq-eqb k s.count d, some_is.1)

@@ -1,7 +1,7 @@
 -- `acts::create::add_descriptor` keeps its promise.
 use native.Mathlib.Omega.{arith}
 use Rattle.blocks.proofs.Near.{small_same}
-use Rattle.acts.proofs.Creating.{slots-low, one_more}
+use Rattle.acts.proofs.Creating.{slots-low}
 use Rattle.acts.proofs.create.add_descriptor.Goals as goal
 
 pub overflow_mul-n : goal.overflow_mul-n
@@ -12,6 +12,3 @@ overflow_add-n c = omega (arith, slots-low _ _ _ c.descriptors-n.ensures c.requi
 
 pub lay_in_table-requires : goal.lay_in_table-requires
 lay_in_table-requires c = (small_same c.requires.0 c.card-1.given, omega (arith, slots-low _ _ _ c.descriptors-n.ensures c.requires.1), omega arith)
-
-pub returns : goal.returns
-returns c = one_more _ _ _ _ _ c.descriptors-n.ensures c.lengthen_table.ensures c.lay_in_table.ensures

@@ -1,17 +1,14 @@
 -- `acts::list::list` keeps its promise.
-use native.Mathlib.Omega.{arith}
-use Rattle.filing.proofs.Editing.{size_fits}
+use mathlib.Core.Path.{sym, ◌∙◌}
 use Rattle.acts.proofs.Naming.{row_is, name_here, name_none}
 use Rattle.acts.proofs.list.list.Goals as goal
 
-pub nth_entry-row-requires : goal.nth_entry-row-requires
-nth_entry-row-requires c = (c.requires.0, size_fits _ _ _ _ _ c.stream-t.ensures c.requires.2)
+pub returns-in_err-row : goal.returns-in_err-row
+returns-in_err-row c =
+    let h = row_is _ _ _ _ _ _ c.stream-t.ensures (sym c.in_err-row.was ∙ c.nth_entry.ensures.numbered) in
+    (c.from_residual.ensures ∙ h, name_none _ _ _ _ _ c.stream-t.ensures _ h)
 
-pub overflow_add-row : goal.overflow_add-row
-overflow_add-row c = omega (arith, c.nth_entry-row.ensures.1, size_fits _ _ _ _ _ c.stream-t.ensures c.requires.2)
-
-pub returns-then-row : goal.returns-then-row
-returns-then-row c = (row_is _ _ _ _ _ c.stream-t.ensures _ c.nth_entry-row.ensures.0, name_here _ _ _ _ _ c.stream-t.ensures _ c.nth_entry-row.ensures.0 _ _ c.if-row.true c.gather_stream.ensures)
-
-pub returns-else-row : goal.returns-else-row
-returns-else-row c = (row_is _ _ _ _ _ c.stream-t.ensures _ c.nth_entry-row.ensures.0, name_none _ _ _ _ _ c.stream-t.ensures _ c.nth_entry-row.ensures.0 _ c.if-row.false)
+pub returns : goal.returns
+returns c =
+    let h = row_is _ _ _ _ _ _ c.stream-t.ensures (sym c.in_ok-row.was ∙ c.nth_entry.ensures.numbered) in
+    (h, name_here _ _ _ _ _ c.stream-t.ensures _ _ _ h c.gather_stream.ensures)

@@ -1,6 +1,9 @@
 -- `blocks::chain::next` keeps its promise.
-use Rattle.blocks.proofs.Near.{next-slot}
+use Rattle.std.proofs.Common.{arith}
+use Rattle.std.proofs.lemmas.Grind.{common_steps}
+use Rattle.layout.specs.Blocks.{next}
 use Rattle.blocks.proofs.chain.next.Goals as goal
 
 pub returns : goal.returns
-returns c = next-slot _ _ _ _ _ c.slot.ensures.0 c.widened.ensures
+unfolding next
+returns c = grind (arith, common_steps)

@@ -1,18 +1,23 @@
 -- `blocks::growth::grow_one` keeps its promise.
+use Rattle.std.proofs.Common.{arith}
+use Rattle.std.proofs.lemmas.Grind.{common_steps}
 use native.Mathlib.Nat.{pos_of_ne-zero}
-use Rattle.blocks.proofs.Near.{fan_two}
-use Rattle.blocks.proofs.Growing.{grown-first, grown-raised, grown-same, tall-some}
-use borrow.Author.Rules.{rules}
+use Rattle.layout.specs.Blocks.{grown_one, raised}
+use Rattle.blocks.proofs.Near.{fan_two, small_same}
+use Rattle.blocks.proofs.Growing.{grown-more, tall-some}
 use Rattle.blocks.proofs.growth.grow_one.Goals as goal
+use Rattle.blocks.proofs.growth.grow_one.Goals.{then-before-after, else-before-after}
 
 pub returns-then-d-eq0 : goal.returns-then-d-eq0
-returns-then-d-eq0 c = grown-first _ _ _ _ _ _ c.if-d-eq0.true c.take_block.ensures.0 c.take_block.ensures.1
+unfolding grown_one
+returns-then-d-eq0 c = grind (arith, common_steps)
 
-pub returns-then-before-after : goal.returns-then-before-after
-returns-then-before-after c = grown-raised _ _ _ _ _ _ _ _ _ c.if-d-eq0.false c.requires.1 c.requires.2 c.if-before-after.true c.raise-above.ensures.0 c.raise-above.ensures.1 c.root.ensures
-
-pub root-requires-2 : goal.root-requires-2
-root-requires-2 c = (search rules, tall-some _ (fan_two _ c.requires.0.least) _ _ (pos_of_ne-zero c.if-d-eq0.false) c.requires.2)
+pub root-requires : goal.root-requires
+root-requires c = (small_same c.requires.0 c.if-before-after.auto.card, tall-some _ (fan_two _ c.requires.0.least) _ _ (pos_of_ne-zero c.if-d-eq0.false) c.requires.2)
 
 pub returns : goal.returns
-returns c = grown-same _ _ _ _ _ _ _ c.if-d-eq0.false c.requires.1 c.requires.2 c.if-before-after.false c.root-2.ensures
+unfolding raised
+returns c = rw (grown-more c.args.card.now c.args.s c.args.top c.args.d c.if-d-eq0.false) (elim c.if-before-after.branch [
+  | then-before-after w ↦ grind (arith, common_steps)
+  | else-before-after w ↦ grind (arith, common_steps)
+])

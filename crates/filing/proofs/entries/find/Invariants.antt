@@ -9,7 +9,7 @@ use Rattle.filing.specs.Paged.{Paged}
 use Rattle.filing.proofs.entries.find.Given as goal
 
 abbrev pub invariant-loop-at : goal.invariant-loop-at
-invariant-loop-at l = Paged l.page l.from (contents l.card l.s l.t.top (data_of l.s l.t) l.t.size) × (l.n ≤ l.at) × (l.at < 2 ^ 63) × (located (entries_from (length (contents l.card l.s l.t.top (data_of l.s l.t) l.t.size)) (contents l.card l.s l.t.top (data_of l.s l.t) l.t.size) l.at) l.name l.n ≡ located (entries (contents l.card l.s l.t.top (data_of l.s l.t) l.t.size)) l.name 0)
+invariant-loop-at l = Paged l.page l.from (contents l.card l.s l.t.top (data_of l.s l.t) l.t.size) × (l.number ≤ l.at) × (l.at < 2 ^ 63) × (located (entries_from (length (contents l.card l.s l.t.top (data_of l.s l.t) l.t.size)) (contents l.card l.s l.t.top (data_of l.s l.t) l.t.size) l.at) l.name l.number ≡ located (entries (contents l.card l.s l.t.top (data_of l.s l.t) l.t.size)) l.name 0)
 
 abbrev pub decreases-loop-at : goal.decreases-loop-at
 decreases-loop-at l = l.t.size - l.at

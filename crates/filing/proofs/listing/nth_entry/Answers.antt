@@ -24,8 +24,10 @@ slice_bounds-read_head-end c = omega (arith, turned_fits _ _ _ _ _ _ _ c.turn-fr
 
 pub returns-then-left-eq0 : goal.returns-then-left-eq0
 returns-then-left-eq0 c = let long = sym (length-contents _ _ _ _ _) in
-    let w = turned_piece _ _ _ _ _ _ _ c.turn-from.ensures long refl c.least.ensures in
-    (nth_here _ _ _ _ _ long c.loop-at-test.true (piece_index _ _ _ w _ c.read_head-h.ensures.0) (piece_length _ _ _ w _ c.read_head-h.ensures.1) _ _ _ c.if-left-eq0.true c.minus.ensures c.least-then-left-eq0.ensures ∙ c.loop-at.invariant.2, omega (arith, c.loop-at-test.true))
+    let w = turned_piece _ _ _ _ _ _ _ c.turn-from.ensures long refl c.least.ensures in record {
+      numbered = nth_here _ _ _ _ _ long c.loop-at-test.true (piece_index _ _ _ w _ c.read_head-h.ensures.0) (piece_length _ _ _ w _ c.read_head-h.ensures.1) _ _ _ c.if-left-eq0.true c.minus.ensures c.least-then-left-eq0.ensures ∙ c.loop-at.invariant.2;
+      at = omega (arith, c.loop-at-test.true);
+    }
 
 pub loop-at-preserved : goal.loop-at-preserved
 loop-at-preserved c = let long = sym (length-contents _ _ _ _ _) in
@@ -36,4 +38,7 @@ loop-at-preserved c = let long = sym (length-contents _ _ _ _ _) in
     )
 
 pub returns : goal.returns
-returns c = let a = c.args in (nth_none (contents a.card.now a.s a.t.top (data_of a.s a.t) a.t.size) _ _ _ _ c.loop-at.invariant.2 (sym (length-contents _ _ _ _ _)) c.loop-at-test.false, omega arith)
+returns c = let a = c.args in record {
+  numbered = nth_none (contents a.card.now a.s a.t.top (data_of a.s a.t) a.t.size) _ _ _ _ c.loop-at.invariant.2 (sym (length-contents _ _ _ _ _)) c.loop-at-test.false;
+  at = tt;
+}
