@@ -11,8 +11,8 @@ use samples::parts::Part;
 use samples::plan::Plan;
 
 pub enum Root {
-    // The last name is longer than the root has bytes for: by so much.
-    LastLonger(&'static [Value]),
+    // The last name is longer than the root has bytes for.
+    LastLonger,
     LastLongest,
     // Bytes are left behind the last name.
     LastShorter,
@@ -33,7 +33,7 @@ pub enum Root {
 }
 
 pub const ROOT: [(&str, Root); 20] = [
-    ("last-name-cut", Root::LastLonger(&[Value::Drawn(1, 5)])),
+    ("last-name-cut", Root::LastLonger),
     ("last-name-far-too-long", Root::LastLongest),
     ("bytes-left", Root::LastShorter),
     ("root-cut", Root::Cut),
@@ -78,11 +78,11 @@ fn put_last_length(card: &mut Card, entry: Entry, v: u64) -> Option<()> {
     card.put_in_root(entry.length_field()?, v)
 }
 
-// The last name's length is wrong by a few bytes, or by many.
-fn last_longer(card: &mut Card, values: &[Value]) -> Option<()> {
+// The last name's length is more by a few bytes, more by many, or less.
+fn last_longer(card: &mut Card) -> Option<()> {
     let entry = last_entry(&card.plan)?;
-    let by = card.plan.draws.value_of(values)?;
-    put_last_length(card, entry, by.checked_add(u64::from(entry.length))?)
+    let n = u64::from(entry.length) + u64::from(card.plan.draws.one_in(FEW));
+    put_last_length(card, entry, n)
 }
 
 fn last_longest(card: &mut Card) -> Option<()> {
@@ -95,11 +95,8 @@ fn last_longest(card: &mut Card) -> Option<()> {
 fn last_shorter(card: &mut Card) -> Option<()> {
     let entry = last_entry(&card.plan)?;
     let by = card.plan.draws.one_in(FEW);
-    put_last_length(
-        card,
-        entry,
-        u64::from(u32::from(entry.length).checked_sub(by)?),
-    )
+    let n = u32::from(entry.length).checked_sub(by)?;
+    put_last_length(card, entry, u64::from(n))
 }
 
 // The root's size on the card.
@@ -184,7 +181,7 @@ impl Damage for Root {
 
     fn damage(&self, card: &mut Card) -> Option<()> {
         match self {
-            Root::LastLonger(values) => last_longer(card, values),
+            Root::LastLonger => last_longer(card),
             Root::LastLongest => last_longest(card),
             Root::LastShorter => last_shorter(card),
             Root::Cut => {

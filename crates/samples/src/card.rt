@@ -89,3 +89,27 @@ impl Card {
         self.image.put(FIRST_FREE, v)
     }
 }
+
+#[cfg(test)]
+mod tests {
+    use super::*;
+    use crate::draft::Draft;
+    use crate::draws::Draws;
+    use crate::sizes::BlockSize;
+    use std::test::Fail;
+
+    // A bare card has one block, that of the table.
+    #[test]
+    fn bare_card(rt: HostRuntime) -> Result<(), Fail> {
+        let alloc = rt.alloc();
+        let draws = Draws::new(1, 0);
+        let block = BlockSize::new(6).ok_or(Fault::NoSuchPart)?;
+        let kind = Kind::Bare;
+        let plan = Draft { draws, kind, block }.plan(alloc)?;
+        let card = Card::new(alloc, plan)?;
+        let shown = card.image.shown().ok_or(Fault::NoSuchPart)?;
+        assert_eq!(rt; shown.len(), 87 + 64);
+        assert_eq!(rt; shown.get(..4), Some(b"YAK1".as_slice()));
+        Ok(())
+    }
+}
