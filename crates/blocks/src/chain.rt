@@ -8,7 +8,8 @@ use layout::Shape;
 use memory::bytes::{number, put_number};
 use memory::runs::clear;
 
-// All bits set in 8 bytes, as the header says that there is no block.
+// All bits set in 8 bytes, as the header says that there is no block. A number and no Option: the clauses of `first_free` and
+// `next` promise just this number there.
 pub const END8: usize = 0xffff_ffff_ffff_ffff;
 
 // All bits set in 4 bytes, as a link says it.

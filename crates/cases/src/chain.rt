@@ -1,132 +1,224 @@
 // Rule 7 broken: the free chain, and blocks that nobody has.
-ghost use Rattle.std.specs.Prelude.{◌<◌};
+use crate::damage::Damage;
+use crate::stream_pyramids::any_block;
+use samples::card::Card;
+use samples::draws::Draws;
+use samples::kinds::Kind;
+use samples::owners::{LONG, Owner};
+use samples::parts::{NO_BLOCK, NO_OFFSET, Part};
+use samples::wrong::{FF4, FF8, TWO_63};
 
-use memory::numbers::minus;
-use samples::cells::{BYTES, COUNT, FREE, LENGTH, get, set};
-use samples::dice::below;
-use samples::places::{block, free, index, last_free, top};
-use samples::put::{put_first_free, put_link, put_owner, put_reserved, put_size, put_top};
-use samples::rows::data_blocks;
-use samples::slots::{any_block, any_data};
-use samples::sums::times;
-use samples::wrong::{turn, wrong_block, wrong_link};
+pub enum Chain {
+    // The first block, the link of the last one and that of the first one are no blocks of the card.
+    FirstOut,
+    LastLinkOut,
+    NextLinkOut,
+    // The first block of a card that has no free one.
+    FullFirst,
+    // The last block leads back to one of the chain; a block leads to itself.
+    Twice,
+    Itself,
+    // A data block of the long stream is on the chain.
+    Used(Place),
+    // The last block leads to the long stream's top, or to a block of an owner.
+    Redirector,
+    BlockOf(Owner),
+    EndsEarly,
+    NoChain,
+    StartsLate,
+    OneSkipped,
+    // The long stream gives up all its blocks, or its last data block.
+    StreamLetGo,
+    DataLetGo,
+    // The card has one block more.
+    BlockOfNobody,
+}
 
-// The first-free field of a full card.
-fn full_first(plan: &[u8]) -> usize {
-    match turn(plan, 4) {
-        0 => 0xffff_ffff,
-        1 => get(plan, COUNT),
-        2 => 0xffff_ffff_ffff_fffe,
-        _ => 9223372036854775807,
+pub enum Place {
+    End,
+    Head,
+    // That of the second block.
+    Second,
+}
+
+pub const CHAIN: [(&str, Chain); 19] = [
+    ("first-block-out-of-range", Chain::FirstOut),
+    ("full-first-block-wrong", Chain::FullFirst),
+    ("last-link-out-of-range", Chain::LastLinkOut),
+    ("next-link-out-of-range", Chain::NextLinkOut),
+    ("block-met-twice", Chain::Twice),
+    ("next-is-itself", Chain::Itself),
+    ("used-block-at-the-end", Chain::Used(Place::End)),
+    ("used-block-at-the-head", Chain::Used(Place::Head)),
+    ("used-for-free", Chain::Used(Place::Second)),
+    ("redirector-on-chain", Chain::Redirector),
+    ("table-on-chain", Chain::BlockOf(Owner::Table)),
+    ("root-on-chain", Chain::BlockOf(Owner::Root)),
+    ("ends-early", Chain::EndsEarly),
+    ("no-chain", Chain::NoChain),
+    ("starts-late", Chain::StartsLate),
+    ("one-skipped", Chain::OneSkipped),
+    ("stream-let-go", Chain::StreamLetGo),
+    ("data-block-let-go", Chain::DataLetGo),
+    ("block-of-nobody", Chain::BlockOfNobody),
+];
+
+// Block `j` of the chain.
+fn free(card: &Card, j: usize) -> Option<u16> {
+    card.chain.get(j).copied()
+}
+
+// A block of the chain, drawn.
+fn any_free(card: &mut Card) -> Option<u16> {
+    card.plan.draws.one_of(&card.chain)
+}
+
+// A block of the chain leads to another.
+fn put_next(card: &mut Card, block: u16, next: u16) -> Option<()> {
+    card.image.put_link(block, u64::from(next))
+}
+
+// The last block leads to another.
+fn put_after_last(card: &mut Card, next: u16) -> Option<()> {
+    let last = *card.chain.last()?;
+    put_next(card, last, next)
+}
+
+// The first block.
+fn put_head(card: &mut Card, block: u16) -> Option<()> {
+    card.put_first_free(u64::from(block))
+}
+
+fn first_out(card: &mut Card) -> Option<()> {
+    let v = card.plan.draws.wrong_block(free(card, 0)?, card.count)?;
+    card.put_first_free(v)
+}
+
+fn full_first(card: &mut Card) -> Option<()> {
+    let count = u64::from(card.count);
+    let v = card.plan.draws.turn_of(&[FF4, count, FF8 - 1, TWO_63 - 1])?;
+    card.put_first_free(v)
+}
+
+// The link of a block, where another one would be right.
+fn link_out(card: &mut Card, block: u16, right: u16) -> Option<()> {
+    let v = card.plan.draws.wrong_link(right, card.count)?;
+    card.image.put_link(block, v)
+}
+
+// The chain ends at one of its blocks, but for the last.
+fn ends_early(card: &mut Card) -> Option<()> {
+    let (_, others) = card.chain.split_last()?;
+    let b = card.plan.draws.one_of(others)?;
+    card.image.put_link(b, NO_BLOCK)
+}
+
+// A data block of the long stream, drawn.
+fn any_data(card: &mut Card) -> Option<u16> {
+    let stream = card.plan.streams.of(LONG)?;
+    card.plan.draws.one_of(stream.data_blocks()?)
+}
+
+// The long stream gives up its last data block.
+fn data_let_go(card: &mut Card) -> Option<()> {
+    let stream = card.plan.streams.of(LONG)?;
+    let (_, left) = stream.data_blocks()?.split_last()?;
+    let only = match left {
+        [b] => Some(*b),
+        _ => None,
+    };
+    let v = left
+        .len()
+        .checked_mul(usize::from(card.image.block.bytes()))? as u64;
+    card.put_part(LONG, Part::Size, v)?;
+    card.put_part(LONG, Part::Reserved, v)?;
+    if let Some(top) = only {
+        card.put_part(LONG, Part::Top, u64::from(top))?;
+    }
+    Some(())
+}
+
+// The card is longer by a block.
+fn longer(card: &mut Card) -> Option<()> {
+    let z = usize::from(card.image.block.bytes());
+    card.image.length = card.image.length.checked_add(z)?;
+    Some(())
+}
+
+// A data block of the long stream, drawn, is on the chain.
+fn used_on_chain(card: &mut Card, place: &Place) -> Option<()> {
+    let b = any_data(card)?;
+    let first = free(card, 0)?;
+    match place {
+        Place::End => {
+            put_after_last(card, b)?;
+            card.image.put_link(b, NO_BLOCK)
+        }
+        Place::Head => {
+            put_head(card, b)?;
+            put_next(card, b, first)
+        }
+        Place::Second => {
+            let third = free(card, 2)?;
+            put_next(card, first, b)?;
+            put_next(card, b, third)
+        }
     }
 }
 
-// A link out of range: the last one's, or the first one's.
-fn link_out(plan: &mut [u8], card: &mut [u8], clause: usize) {
-    if clause == 2 {
-        let right = free(&*plan, 0);
-        let v = wrong_link(plan, right);
-        put_link(&*plan, card, last_free(&*plan), v);
-    } else {
-        let right = free(&*plan, 1);
-        let v = wrong_link(plan, right);
-        put_link(&*plan, card, free(&*plan, 0), v);
-    }
-}
-
-// A free block, drawn from those before the last `less`.
-fn any_free(plan: &mut [u8], less: usize) -> usize
-    ensures { result < 4294967296 }
-{
-    let q = minus(get(&*plan, FREE), less);
-    let j = below(plan, q);
-    free(&*plan, j)
-}
-
-// The chain goes round, or ends before its last block.
-fn bent(plan: &mut [u8], card: &mut [u8], clause: usize) {
-    match clause {
-        4 => {
-            let b = any_free(plan, 0);
-            put_link(&*plan, card, last_free(&*plan), b);
-        }
-        5 => {
-            let b = any_free(plan, 0);
-            put_link(&*plan, card, b, b);
-        }
-        _ => {
-            let b = any_free(plan, 1);
-            put_link(&*plan, card, b, 0xffff_ffff);
+impl Damage for Chain {
+    fn kind(&self, _draws: &Draws) -> Option<Kind> {
+        match self {
+            Chain::FullFirst => Some(Kind::Full),
+            _ => Some(Kind::Rich),
         }
     }
-}
 
-// A data block of stream 0 on the chain: at its end, at its head, or for the second one.
-fn data_on_chain(plan: &mut [u8], card: &mut [u8], clause: usize) {
-    let b = any_data(plan, 2);
-    match clause {
-        6 => {
-            put_link(&*plan, card, last_free(&*plan), b);
-            put_link(&*plan, card, b, 0xffff_ffff);
+    fn damage(&self, card: &mut Card) -> Option<()> {
+        match self {
+            Chain::FirstOut => first_out(card),
+            Chain::FullFirst => full_first(card),
+            Chain::LastLinkOut => {
+                let last = *card.chain.last()?;
+                let first = free(card, 0)?;
+                link_out(card, last, first)
+            }
+            Chain::NextLinkOut => {
+                let first = free(card, 0)?;
+                let second = free(card, 1)?;
+                link_out(card, first, second)
+            }
+            Chain::Twice => {
+                let b = any_free(card)?;
+                put_after_last(card, b)
+            }
+            Chain::Itself => {
+                let b = any_free(card)?;
+                put_next(card, b, b)
+            }
+            Chain::Used(place) => used_on_chain(card, place),
+            Chain::Redirector => {
+                let top = card.plan.streams.of(LONG)?.top();
+                put_after_last(card, top)
+            }
+            Chain::BlockOf(owner) => {
+                let b = any_block(card, *owner)?;
+                put_after_last(card, b)
+            }
+            Chain::EndsEarly => ends_early(card),
+            Chain::NoChain => card.put_first_free(NO_OFFSET),
+            Chain::StartsLate => {
+                let second = free(card, 1)?;
+                put_head(card, second)
+            }
+            Chain::OneSkipped => {
+                let first = free(card, 0)?;
+                let third = free(card, 2)?;
+                put_next(card, first, third)
+            }
+            Chain::StreamLetGo => card.put_desc(LONG, 0, 0, 0),
+            Chain::DataLetGo => data_let_go(card),
+            Chain::BlockOfNobody => longer(card),
         }
-        7 => {
-            put_first_free(card, b);
-            put_link(&*plan, card, b, free(&*plan, 0));
-        }
-        _ => {
-            put_link(&*plan, card, free(&*plan, 0), b);
-            put_link(&*plan, card, b, free(&*plan, 2));
-        }
-    }
-}
-
-// Another used block at the chain's end.
-fn other_on_chain(plan: &mut [u8], card: &mut [u8], owner: usize) {
-    let b = any_block(plan, owner);
-    put_link(&*plan, card, last_free(&*plan), b);
-}
-
-// Stream 0 gives up its last data block.
-fn shorter(plan: &[u8], card: &mut [u8]) {
-    let d = data_blocks(plan, 2);
-    let k = index(plan, 2);
-    let v = times(minus(d, 1), get(plan, BYTES));
-    put_size(plan, card, k, v);
-    put_reserved(plan, card, k, v);
-    if d == 2 {
-        put_top(plan, card, k, block(plan, 2, 0));
-    }
-}
-
-// The card has one block more.
-fn longer(plan: &mut [u8]) {
-    let length = get(&*plan, LENGTH) + get(&*plan, BYTES);
-    set(plan, LENGTH, length);
-}
-
-// The first-free field, or the second block's link.
-fn break_head(plan: &[u8], card: &mut [u8], clause: usize) {
-    match clause {
-        0 => put_first_free(card, wrong_block(plan, turn(plan, 8), free(plan, 0))),
-        1 => put_first_free(card, full_first(plan)),
-        13 => put_first_free(card, 0xffff_ffff_ffff_ffff),
-        14 => put_first_free(card, free(plan, 1)),
-        _ => put_link(plan, card, free(plan, 0), free(plan, 2)),
-    }
-}
-
-// Rule 7.
-pub fn break_7(plan: &mut [u8], card: &mut [u8], clause: usize) {
-    match clause {
-        2 | 3 => link_out(plan, card, clause),
-        4 | 5 | 12 => bent(plan, card, clause),
-        6 | 7 | 8 => data_on_chain(plan, card, clause),
-        9 => put_link(&*plan, card, last_free(&*plan), top(&*plan, 2)),
-        10 => other_on_chain(plan, card, 0),
-        11 => other_on_chain(plan, card, 1),
-        16 => put_owner(&*plan, card, 2, 0, 0, 0),
-        17 => shorter(&*plan, card),
-        18 => longer(plan),
-        _ => break_head(&*plan, card, clause),
     }
 }

@@ -1,106 +1,102 @@
 // Rule 5 broken: the forms of descriptors.
-ghost use Rattle.std.specs.Prelude.{◌<◌};
+use samples::card::Card;
+use samples::owners::{EMPTY, LONG, Owner};
+use samples::parts::Part;
+use samples::wrong::{FF4, FF8, TWO_32, TWO_63};
 
-use memory::numbers::minus;
-use samples::cells::{BYTES, COUNT, NAMED, SPARES, get};
-use samples::dice::below;
-use samples::places::{index, reserved};
-use samples::plan::spare;
-use samples::put::{put_flags, put_reserved, put_size, put_top};
-use samples::sums::times;
-use samples::wrong::{not_zero, turn, wrong_flags, wrong_reserved};
-
-// A spare, drawn: its number among the spares.
-pub fn any_spare(plan: &mut [u8]) -> usize
-    ensures { result < 2147483647 }
-{
-    let v = get(&*plan, SPARES);
-    below(plan, v)
+pub enum Form {
+    FreeReserved,
+    FreeFlags,
+    LiveFlags,
+    LiveReserved,
+    EmptyReserved,
+    // The size of a long stream is a byte more than its blocks have, or less by a block.
+    SizeAbove,
+    SizeBelow,
+    // So large that its blocks can't be counted.
+    SizeNearEnd,
+    EmptyTop,
+    // More data blocks than the card has blocks.
+    AboveCount,
 }
 
-// A live descriptor, drawn: its index.
-fn any_live(plan: &mut [u8]) -> usize
-    ensures { result < 4294967296 }
-{
-    let m = get(&*plan, NAMED);
-    let owner = 1 + below(plan, m + 1);
-    index(&*plan, owner)
+// A free descriptor, drawn.
+pub fn any_spare(card: &mut Card) -> Option<u16> {
+    card.plan.draws.one_of(&card.plan.spares)
 }
 
-// Flags of a free descriptor.
-fn break_free_flags(plan: &mut [u8], card: &mut [u8]) {
-    let j = any_spare(plan);
-    let flags = wrong_flags(plan);
-    put_flags(&*plan, card, spare(&*plan, j), flags);
+// The root or a named stream, one of the first `n`.
+fn any_live(card: &mut Card, n: usize) -> Owner {
+    Owner::live(card.plan.draws.below(n))
 }
 
-// Flags of a live descriptor.
-fn break_live_flags(plan: &mut [u8], card: &mut [u8]) {
-    let k = any_live(plan);
-    let flags = wrong_flags(plan);
-    put_flags(&*plan, card, k, flags);
+// Reserved of the root or of the first named stream.
+fn put_reserved(card: &mut Card) -> Option<()> {
+    let owner = any_live(card, 2);
+    let block = card.image.block;
+    let right = card.plan.streams.of(owner)?.reserved(block);
+    let v = card.plan.draws.wrong_reserved(right, block.bytes())?;
+    card.put_part(owner, Part::Reserved, v)
 }
 
-// Reserved of the root or of stream 0.
-fn break_reserved(plan: &mut [u8], card: &mut [u8]) {
-    let owner = 1 + below(plan, 2);
-    let v = wrong_reserved(&*plan, reserved(&*plan, owner));
-    put_reserved(&*plan, card, index(&*plan, owner), v);
+// Reserved by a block more than the card has, and a size that fills the last of these or begins it.
+fn above_count(card: &mut Card) -> Option<()> {
+    let owner = any_live(card, 2);
+    let z = u64::from(card.image.block.bytes());
+    let v = (u64::from(card.count) + 1) * z;
+    let size = card.plan.draws.turn_of(&[v, v - (z - 1)])?;
+    card.put_part(owner, Part::Reserved, v)?;
+    card.put_part(owner, Part::Size, size)
 }
 
-// More data blocks than the card has blocks.
-fn above_count(plan: &mut [u8], card: &mut [u8]) {
-    let owner = 1 + below(plan, 2);
-    let z = get(&*plan, BYTES);
-    let v = times(get(&*plan, COUNT) + 1, z);
-    let k = index(&*plan, owner);
-    put_reserved(&*plan, card, k, v);
-    if turn(&*plan, 2) == 0 {
-        put_size(&*plan, card, k, v);
-    } else {
-        put_size(&*plan, card, k, minus(v + 1, z));
-    }
+// Reserved of the long stream.
+fn long_reserved(card: &Card) -> Option<u32> {
+    Some(card.plan.streams.of(LONG)?.reserved(card.image.block))
 }
 
-// A top of an empty stream.
-fn empty_top(plan: &[u8]) -> usize {
-    match turn(plan, 5) {
-        0 => 1,
-        1 => 0xffff_ffff,
-        2 => 4294967296,
-        3 => 9223372036854775808,
-        _ => 0xffff_ffff_ffff_fffe,
-    }
-}
-
-// The size of stream 0 does not fit its reserved.
-fn break_size(plan: &[u8], card: &mut [u8], clause: usize) {
-    let v = reserved(plan, 2);
-    if clause == 5 {
-        put_size(plan, card, index(plan, 2), v + 1);
-    } else {
-        put_size(plan, card, index(plan, 2), minus(v, get(plan, BYTES)));
-    }
-}
-
-// The form of a descriptor.
-pub fn break_form(plan: &mut [u8], card: &mut [u8], clause: usize) {
-    match clause {
-        0 => {
-            let j = any_spare(plan);
-            put_reserved(&*plan, card, spare(&*plan, j), not_zero(&*plan));
+impl Form {
+    pub fn damage(&self, card: &mut Card) -> Option<()> {
+        let z = card.image.block.bytes();
+        let draws = &mut card.plan.draws;
+        match self {
+            Form::FreeReserved => {
+                let k = any_spare(card)?;
+                let v = card.plan.draws.not_zero(z)?;
+                card.put_spare(k, Part::Reserved, v)
+            }
+            Form::FreeFlags => {
+                let k = any_spare(card)?;
+                let v = card.plan.draws.wrong_flags()?;
+                card.put_spare(k, Part::Flags, v)
+            }
+            Form::LiveFlags => {
+                let others = card.plan.streams.named.len();
+                let owner = any_live(card, 1 + others);
+                let v = card.plan.draws.wrong_flags()?;
+                card.put_part(owner, Part::Flags, v)
+            }
+            Form::LiveReserved => put_reserved(card),
+            Form::EmptyReserved => {
+                let v = draws.not_zero(z)?;
+                card.put_part(EMPTY, Part::Reserved, v)
+            }
+            Form::SizeAbove => {
+                let v = u64::from(long_reserved(card)?) + 1;
+                card.put_part(LONG, Part::Size, v)
+            }
+            Form::SizeBelow => {
+                let v = long_reserved(card)?.checked_sub(u32::from(z))?;
+                card.put_part(LONG, Part::Size, u64::from(v))
+            }
+            Form::SizeNearEnd => {
+                let less = draws.below(usize::from(z) - 1);
+                card.put_part(EMPTY, Part::Size, FF8 - u64::from(less))
+            }
+            Form::EmptyTop => {
+                let v = draws.turn_of(&[1, FF4, TWO_32, TWO_63, FF8 - 1])?;
+                card.put_part(EMPTY, Part::Top, v)
+            }
+            Form::AboveCount => above_count(card),
         }
-        1 => break_free_flags(plan, card),
-        2 => break_live_flags(plan, card),
-        3 => break_reserved(plan, card),
-        4 => put_reserved(&*plan, card, index(&*plan, 4), not_zero(&*plan)),
-        5 | 6 => break_size(&*plan, card, clause),
-        7 => {
-            let z = get(&*plan, BYTES);
-            let less = below(plan, minus(z, 1));
-            put_size(&*plan, card, index(&*plan, 4), 0xffff_ffff_ffff_ffff - less);
-        }
-        8 => put_top(&*plan, card, index(&*plan, 4), empty_top(&*plan)),
-        _ => above_count(plan, card),
     }
 }

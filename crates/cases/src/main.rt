@@ -3,142 +3,106 @@
 #![tactic(auto)]
 
 mod chain;
+mod damage;
 mod descriptors;
-mod entries;
+mod fixed;
 mod forms;
-mod header;
+mod indices;
+mod lengths;
 mod own;
 mod root;
+mod slots;
 mod stream_pyramids;
-mod words;
+mod undamaged;
 
-ghost use Rattle.std.specs.Prelude.{◌<◌, ◌≤◌};
+ghost use Rattle.std.specs.Prelude.{◌<◌, ◌≤◌, length};
 
-use memory::numbers::{least, minus, wide};
-use samples::cells::{LENGTH, get};
-use std::io;
+use damage::Damage;
+use dice::sums::sum;
+use layout::answers::Rule;
+use samples::card::Card;
+use samples::draft::Draft;
+use samples::draws::Draws;
+use samples::fault::Fault;
+use samples::kinds::Kind;
+use samples::sizes::BlockSize;
+use sound::check::check;
+use std::alloc::Global;
 
-// What a clause changes in the plan.
-fn change(plan: &mut [u8], rule: usize, clause: usize) {
-    match rule {
-        5 => descriptors::change_5(plan, clause),
-        8 => entries::change_8(plan, clause),
-        _ => {}
+// How many cards are made of a kind, and how many of a clause.
+const OF_KIND: usize = 70;
+
+const OF_CLAUSE: usize = 21;
+
+// What stands for a sound card in place of a rule's number.
+const SOUND: usize = 0;
+
+// The number of the lowest rule that a card breaks.
+fn broken(card: &[u8]) -> usize {
+    match check(card) {
+        Ok(_) => SOUND,
+        Err(rule) => rule.number(),
     }
 }
 
-// What a clause changes on the card.
-fn damage(plan: &mut [u8], card: &mut [u8], rule: usize, clause: usize) {
-    match rule {
-        0 => {}
-        1 => header::break_1(plan),
-        2 => header::break_2(plan, card, clause),
-        3 => header::break_3(plan, card, clause),
-        4 => own::break_4(plan, card, clause),
-        5 => descriptors::break_5(plan, card, clause),
-        6 => stream_pyramids::break_6(plan, card, clause),
-        7 => chain::break_7(plan, card, clause),
-        _ => root::break_8(plan, card, clause),
-    }
+// The block size of a card.
+fn block_of<D: Damage>(damage: &D, kind: Kind, draws: &Draws) -> Option<BlockSize> {
+    BlockSize::new(draws.turn_in(damage.shifts(kind))?)
 }
 
-// The bytes as one number, the first byte highest, in the remainder that the dice use.
-fn sum(card: &[u8]) -> usize
-    ensures { result < 2147483647 }
-{
-    let n = card.len();
-    let mut v = 0;
-    let mut left = n;
-    while 0 < left {
-        v = (v * 256 + wide(memory::bytes::byte(card, minus(n, left)))) % 2147483647;
-        left -= 1;
-    }
-    v
+// Makes the card of a clause that has these draws.
+fn damaged<D: Damage>(alloc: Global, damage: &D, draws: Draws) -> Result<Card, Fault> {
+    let kind = damage.kind(&draws).ok_or(Fault::NoSuchPart)?;
+    let block = block_of(damage, kind, &draws).ok_or(Fault::NoSuchPart)?;
+    let mut plan = Draft { draws, kind, block }.plan(alloc)?;
+    damage.change(&mut plan).ok_or(Fault::NoSuchPart)?;
+    let mut card = Card::new(alloc, plan)?;
+    damage.damage(&mut card).ok_or(Fault::NoSuchPart)?;
+    Ok(card)
 }
 
-// The rule that the check gives, and the sum.
-fn answer(rt: &impl Print, card: &[u8]) -> io::Result<()> {
-    let rule = sound::check::check(card).rule;
-    let total = sum(card);
-    println!(rt; "{rule} {total}")
-}
-
-// The same of the first `length` bytes.
-fn answer_of(rt: &impl Print, card: &[u8], length: usize) -> io::Result<()> {
-    let n = least(length, card.len());
-    answer(rt, &card[..n])
-}
-
-// Makes card `i` of a clause, and writes its line.
-fn one(
+// Makes a card, and writes its line.
+fn write_card<D: Damage>(
     rt: &impl Print,
-    plan: &mut [u8],
-    card: &mut [u8],
-    rule: usize,
-    clause: usize,
+    alloc: Global,
+    (name, damage): &(&str, D),
+    state: usize,
     i: usize,
-) -> io::Result<()>
-    requires { (rule ≤ 8) × (clause ≤ 99) }
-{
-    samples::plan::draw(plan, 100 * rule + clause, i);
-    change(plan, rule, clause);
-    samples::blocks::give(plan);
-    samples::lay::lay(plan, card);
-    damage(plan, card, rule, clause);
-    words::say_name(rt, rule, clause)?;
-    print!(rt; "{i} ")?;
-    answer_of(rt, &*card, get(&*plan, LENGTH))
+) -> anyhow::Result<()> {
+    let card = damaged(alloc, damage, Draws::new(state, i))?;
+    let shown = card.image.shown().ok_or(Fault::NoSuchPart)?;
+    println!(rt; "{name} {i} {} {}", broken(shown), sum(0, 256, shown))?;
+    Ok(())
 }
 
-// The `n` cards of a clause.
-fn cards(
+// Makes the cards of a rule's clauses.
+fn write_rule<D: Damage>(
     rt: &impl Print,
-    plan: &mut [u8],
-    card: &mut [u8],
+    alloc: Global,
     rule: usize,
-    clause: usize,
-    n: usize,
-) -> io::Result<()>
-    requires { (rule ≤ 8) × (clause ≤ 99) }
+    clauses: &[(&str, D)],
+    cards: usize,
+) -> anyhow::Result<()>
+    requires { (rule ≤ 8) × (length clauses.now ≤ 100) × (cards ≤ 100) }
 {
-    let mut left = n;
-    while 0 < left {
-        one(rt, plan, card, rule, clause, minus(n, left))?;
-        left -= 1;
+    for (k, clause) in clauses.iter().enumerate() {
+        for i in 0..cards {
+            let state = 1 + 1000 * (100 * rule + k) + i;
+            write_card(rt, alloc, clause, state, i)?;
+        }
     }
     Ok(())
 }
 
-// The `n` clauses of a rule.
-fn clauses(
-    rt: &impl Print,
-    plan: &mut [u8],
-    card: &mut [u8],
-    rule: usize,
-    n: usize,
-) -> io::Result<()>
-    requires { (rule ≤ 8) × (n ≤ 100) }
-{
-    let each = if rule == 0 { 70 } else { 21 };
-    let mut left = n;
-    while 0 < left {
-        let clause = minus(n, left);
-        cards(rt, plan, card, rule, clause, each)?;
-        left -= 1;
-    }
-    Ok(())
-}
-
-fn main(rt: HostRuntime) -> io::Result<()> {
-    let mut plan = [0u8; 26000];
-    let mut card = [0u8; 270000];
-    clauses(&rt, &mut plan, &mut card, 0, 11)?;
-    clauses(&rt, &mut plan, &mut card, 1, 1)?;
-    clauses(&rt, &mut plan, &mut card, 2, 18)?;
-    clauses(&rt, &mut plan, &mut card, 3, 10)?;
-    clauses(&rt, &mut plan, &mut card, 4, 18)?;
-    clauses(&rt, &mut plan, &mut card, 5, 23)?;
-    clauses(&rt, &mut plan, &mut card, 6, 11)?;
-    clauses(&rt, &mut plan, &mut card, 7, 19)?;
-    clauses(&rt, &mut plan, &mut card, 8, 20)
+fn main(rt: HostRuntime) -> anyhow::Result<()> {
+    let alloc = rt.alloc();
+    write_rule(&rt, alloc, SOUND, &undamaged::KINDS, OF_KIND)?;
+    write_rule(&rt, alloc, Rule::Length.number(), &lengths::SHORT, OF_CLAUSE)?;
+    write_rule(&rt, alloc, Rule::FixedValues.number(), &fixed::FIXED, OF_CLAUSE)?;
+    write_rule(&rt, alloc, Rule::Blocks.number(), &lengths::MISFITS, OF_CLAUSE)?;
+    write_rule(&rt, alloc, Rule::Table.number(), &own::OWN, OF_CLAUSE)?;
+    write_rule(&rt, alloc, Rule::Descriptors.number(), &descriptors::DESCRIPTORS, OF_CLAUSE)?;
+    write_rule(&rt, alloc, Rule::Pyramids.number(), &stream_pyramids::PYRAMIDS, OF_CLAUSE)?;
+    write_rule(&rt, alloc, Rule::FreeChain.number(), &chain::CHAIN, OF_CLAUSE)?;
+    write_rule(&rt, alloc, Rule::Root.number(), &root::ROOT, OF_CLAUSE)
 }

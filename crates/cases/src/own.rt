@@ -1,82 +1,149 @@
 // Rule 4 broken: the table's own descriptor, in the header, and its pyramid.
-ghost use Rattle.std.specs.Prelude.{◌≤◌};
+use crate::damage::Damage;
+use crate::slots::Slot;
+use samples::card::Card;
+use samples::draws::{Draws, Span, Value};
+use samples::kinds::Kind;
+use samples::owners::Owner;
+use samples::parts::Part;
+use samples::plan::{BEFORE_DESCRIPTORS, DESCRIPTOR, offset};
+use samples::wrong::{TWO_32, TWO_63};
 
-use memory::bytes::put_number;
-use memory::numbers::minus;
-use samples::cells::{BYTES, COUNT, SIZES, get, item};
-use samples::dice::below;
-use samples::places::{reserved, top};
-use samples::slots::{any_data_slot, data_slot_out, data_twice, deep_slot_out, deep_twice};
-use samples::wrong::{turn, wrong_block, wrong_flags, wrong_reserved};
-
-// A size that is no 8 + 25n with n from 1 to 256.
-fn odd_size(plan: &mut [u8], clause: usize) -> usize {
-    let size = item(&*plan, SIZES, 0);
-    match clause {
-        0 => size + 1,
-        1 => minus(size, 1),
-        2 => size + 2 + below(plan, 22),
-        6 => 6433,
-        7 => 8 + 25 * (258 + below(plan, 60)),
-        _ => match turn(&*plan, 2) {
-            0 => size + 4294967296,
-            _ => size + 9223372036854775808,
-        },
-    }
+pub enum Own {
+    // The size is so much more.
+    Larger(&'static [Value]),
+    OneLess,
+    // So much more, and less than a descriptor.
+    Between(&'static [Value]),
+    // The size is that of a table of so many descriptors.
+    Of(&'static [Value]),
+    OfMore(&'static [Value]),
+    OfNone,
+    // There is no room for the first offset.
+    Tiny,
+    Flags,
+    Reserved,
+    // More data blocks than the card has blocks, or as many, and a pyramid over them.
+    AboveCount,
+    PyramidAboveCount,
+    Top,
+    Slot(Slot),
 }
 
-// Size and reserved of the table.
-fn put_sized(card: &mut [u8], size: usize, reserved: usize) {
-    put_number(card, 45, 8, size);
-    put_number(card, 61, 8, reserved);
-}
+pub const OWN: [(&str, Own); 18] = [
+    ("table-size-one-more", Own::Larger(&[Value::Is(1)])),
+    ("table-size-one-less", Own::OneLess),
+    ("table-size-between", Own::Between(&[Value::Drawn(2, 22)])),
+    (
+        "table-size-high-bits",
+        Own::Larger(&[Value::Is(TWO_32), Value::Is(TWO_63)]),
+    ),
+    ("table-of-none", Own::OfNone),
+    ("table-below-8", Own::Tiny),
+    ("table-of-257", Own::Of(&[Value::Is(257)])),
+    ("table-of-more", Own::OfMore(&[Value::Drawn(258, 60)])),
+    ("table-flags", Own::Flags),
+    ("table-reserved", Own::Reserved),
+    ("table-above-count", Own::AboveCount),
+    ("table-pyramid-above-count", Own::PyramidAboveCount),
+    ("table-top-out-of-range", Own::Top),
+    ("table-slot-out-of-range", Own::Slot(Slot::Out)),
+    ("table-deep-slot-out-of-range", Own::Slot(Slot::DeepOut)),
+    ("table-block-twice", Own::Slot(Slot::Twice)),
+    ("table-top-below-itself", Own::Slot(Slot::Top)),
+    ("table-deep-twice", Own::Slot(Slot::DeepTwice)),
+];
 
-// A table below 8 bytes.
-fn tiny_table(plan: &[u8], card: &mut [u8]) {
-    let size = turn(plan, 8);
-    if size == 0 {
-        put_sized(card, 0, 0);
-    } else {
-        put_sized(card, size, get(plan, BYTES));
-    }
-}
-
-// A table with more data blocks than the card has blocks, or as many.
-fn huge_table(plan: &[u8], card: &mut [u8], more: usize)
-    requires { more ≤ 1 }
-{
-    let count = get(plan, COUNT);
-    let n = minus(64 * count, 8) / 25 + more;
-    put_sized(card, 8 + 25 * n, 64 * (count + more));
-}
+// The rows of the table's pyramid that deep damage goes to.
+const DEEP_ROWS: usize = 2;
 
 // A field of the table's descriptor.
-fn break_own_field(plan: &mut [u8], card: &mut [u8], clause: usize) {
-    match clause {
-        4 => put_sized(card, 8, get(&*plan, BYTES)),
-        5 => tiny_table(&*plan, card),
-        8 => put_number(card, 69, 1, wrong_flags(plan)),
-        9 => put_number(card, 61, 8, wrong_reserved(&*plan, reserved(&*plan, 0))),
-        10 => huge_table(&*plan, card, 1),
-        11 => huge_table(&*plan, card, 0),
-        12 => put_number(
-            card,
-            53,
-            8,
-            wrong_block(&*plan, turn(&*plan, 9), top(&*plan, 0)),
-        ),
-        _ => put_number(card, 45, 8, odd_size(plan, clause)),
-    }
+fn put_own(card: &mut Card, part: Part, v: u64) -> Option<()> {
+    card.put_part(Owner::Table, part, v)
 }
 
-// Rule 4.
-pub fn break_4(plan: &mut [u8], card: &mut [u8], clause: usize) {
-    match clause {
-        13 => data_slot_out(plan, card, 0),
-        14 => deep_slot_out(plan, card, 0, 2),
-        15 => data_twice(plan, card, 0),
-        16 => put_number(card, any_data_slot(plan, 0), 4, top(&*plan, 0)),
-        17 => deep_twice(plan, card, 0, 2),
-        _ => break_own_field(plan, card, clause),
+// Its size and reserved.
+fn put_sized(card: &mut Card, size: u32, reserved: u32) -> Option<()> {
+    put_own(card, Part::Size, u64::from(size))?;
+    put_own(card, Part::Reserved, u64::from(reserved))
+}
+
+// A size below 8, with a block but for size 0.
+fn put_tiny(card: &mut Card) -> Option<()> {
+    let size = card.plan.draws.turn_of(&[0, 1, 2, 3, 4, 5, 6, 7])?;
+    let z = u32::from(card.image.block.bytes());
+    put_sized(card, size, if size == 0 { 0 } else { z })
+}
+
+// The descriptors of the largest table whose contents fit in so many bytes.
+fn largest_table(bytes: u32) -> Option<u16> {
+    u16::try_from(bytes.checked_sub(BEFORE_DESCRIPTORS)? / DESCRIPTOR).ok()
+}
+
+// A table whose contents have all the card's blocks, or a descriptor and a block more.
+fn put_huge(card: &mut Card, more: u16) -> Option<()> {
+    let z = u32::from(card.image.block.bytes());
+    let n = largest_table(u32::from(card.count) * z)?.checked_add(more)?;
+    let blocks = card.count.checked_add(more)?;
+    put_sized(card, offset(n), u32::from(blocks) * z)
+}
+
+impl Damage for Own {
+    fn kind(&self, _draws: &Draws) -> Option<Kind> {
+        match self {
+            Own::Of(_) | Own::OfMore(_) => Some(Kind::ManyStreams),
+            Own::Slot(slot) if slot.is_deep() => Some(Kind::ManyStreams),
+            _ => Some(Kind::Rich),
+        }
+    }
+
+    fn shifts(&self, kind: Kind) -> Span {
+        match self {
+            Own::Between(_) => Span(9, 4),
+            Own::OfMore(_) => Span(12, 1),
+            Own::AboveCount | Own::PyramidAboveCount => Span(6, 1),
+            Own::Slot(slot) if slot.is_deep() => Span(6, 1),
+            Own::Slot(_) => Span(6, 2),
+            _ => kind.shifts(),
+        }
+    }
+
+    fn damage(&self, card: &mut Card) -> Option<()> {
+        let table = &card.plan.streams.table;
+        let size = u64::from(table.size);
+        let z = card.image.block.bytes();
+        match self {
+            Own::Larger(values) | Own::Between(values) => {
+                let more = card.plan.draws.value_of(values)?;
+                put_own(card, Part::Size, size.checked_add(more)?)
+            }
+            Own::OneLess => put_own(card, Part::Size, size.checked_sub(1)?),
+            Own::Of(values) | Own::OfMore(values) => {
+                let n = card.plan.draws.value_of(values)?;
+                let size = offset(u16::try_from(n).ok()?);
+                put_own(card, Part::Size, u64::from(size))
+            }
+            Own::OfNone => put_sized(card, offset(0), u32::from(z)),
+            Own::Tiny => put_tiny(card),
+            Own::Flags => {
+                let v = card.plan.draws.wrong_flags()?;
+                put_own(card, Part::Flags, v)
+            }
+            Own::Reserved => {
+                let right = table.reserved(card.image.block);
+                let v = card.plan.draws.wrong_reserved(right, z)?;
+                put_own(card, Part::Reserved, v)
+            }
+            Own::AboveCount => put_huge(card, 1),
+            Own::PyramidAboveCount => put_huge(card, 0),
+            Own::Top => {
+                let v = card
+                    .plan
+                    .draws
+                    .wrong_block_or_none(table.top(), card.count)?;
+                put_own(card, Part::Top, v)
+            }
+            Own::Slot(slot) => slot.damage(card, Owner::Table, DEEP_ROWS),
+        }
     }
 }

@@ -7,9 +7,7 @@ use native.Mathlib.Omega.{arith}
 use lib.ListN.{length, take, drop, replicate, length-append, length-take, length-drop, length-replicate}
 use lib.Seq.{take_all}
 use Rattle.layout.specs.Bytes.{bytes, over, put}
-use Rattle.layout.specs.Pyramid.{height}
-use Rattle.layout.specs.Blocks.{fan}
-use Rattle.layout.specs.Streams.{data_of, laid, stream, in_stream, lengthened, shortened}
+use Rattle.layout.specs.Streams.{data_of, tall, laid, stream, in_stream, lengthened, shortened}
 use Rattle.layout.specs.Filing.{entry_bytes}
 use Rattle.laws.proofs.Picks.{leb_yes, leb_no}
 use Rattle.laws.proofs.ByteLaws.{length-bytes, over-append, take-over}
@@ -47,12 +45,12 @@ module _ (c : List ℕ) (s : Shape) (t : Desc) where
   pub length_part : (q n : ℕ) → q + n ≤ t.size → length (take n (drop q (bytes_of c s t))) ≡ n
   length_part q n h = rw (length-take, length-drop, length-contents) (omega arith)
 
-  pub page-pulled : (c₁ sheet : List ℕ) (p q n h : ℕ) → n ≤ page → q + n ≤ t.size → h ≡ height (fan s) (data_of s t) → sheet ≡ over (replicate page 0) 0 (take n (drop q (bytes_of c s t)))
-      → c₁ ≡ laid c s t.top h p (take n (drop 0 sheet)) → c₁ ≡ moved c s t p q n
-  page-pulled c₁ sheet p q n h a b e f g =
+  pub page-pulled : (c₁ sheet : List ℕ) (p q n : ℕ) → n ≤ page → q + n ≤ t.size → sheet ≡ over (replicate page 0) 0 (take n (drop q (bytes_of c s t)))
+      → c₁ ≡ laid c s t.top (tall s (data_of s t)) p (take n (drop 0 sheet)) → c₁ ≡ moved c s t p q n
+  page-pulled c₁ sheet p q n a b f g =
       let vs = take n (drop q (bytes_of c s t)) in
       let x : take n sheet ≡ vs = rw f (take-over (replicate page 0) vs n (sym (length_part q n b)) (rw length-replicate a)) in
-      g ∙ rw (x, e)
+      g ∙ rw x
 
 module _ (s : Shape) (t : Desc) where
   -- the bound does not matter where it is not below the bytes that are left
@@ -76,6 +74,16 @@ module _ (s : Shape) (t : Desc) where
   pub drawn_stop : (g : ℕ) (c : List ℕ) (p q : ℕ) → t.size ≤ q + g → t.size ≤ q → drawn g c s t p q ≡ c
   unfolding drawn
   drawn_stop g c p q h k = drawn_bound g 0 c p q h (omega arith)
+
+  -- the last page may be short
+  pub drawn_page : (c : List ℕ) (p q from n : ℕ) → q ≤ from → from < t.size → n ≡ min page (t.size - from)
+      → drawn t.size (moved c s t (p + (from - q)) from n) s t (p + (from + page - q)) (from + page) ≡ drawn t.size c s t (p + (from - q)) from
+  drawn_page c p q from n a h e = elim (dec_le page (t.size - from)) [
+    | yes l ↦ (let z : n ≡ page = omega arith in
+        let y : p + (from + page - q) ≡ p + (from - q) + page = omega arith in
+        rw y (ap (λ (x : ℕ). drawn t.size (moved c s t (p + (from - q)) from n) s t (p + (from - q) + x) (from + x)) (sym z) ∙ drawn-step t.size c (p + (from - q)) from n (omega arith) h e))
+    | no l ↦ drawn_stop t.size _ _ _ (omega arith) (omega arith) ∙ sym (drawn_stop t.size _ (p + (from - q) + n) (from + n) (omega arith) (omega arith)) ∙ drawn-step t.size c (p + (from - q)) from n (omega arith) h e
+  ]
 
 pub taken_out : (c c₁ c₂ : List ℕ) (s : Shape) (k at n m : ℕ) (t : Desc) → t ≡ stream c s k → c₁ ≡ drawn t.size c s t at (at + n) → m ≡ t.size - n → c₂ ≡ shortened c₁ s k m → c₂ ≡ removed c s k at n
 unfolding removed

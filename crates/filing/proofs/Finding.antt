@@ -52,9 +52,9 @@ module _ (r : List ℕ) where
     unfolding located
     find_here t = rw (entries-step at (omega arith), ← g, t, e)
 
-    pub find-next : b ≡ false → located (entries_from (length r) r (at + 6 + l)) name (n + 1) ≡ located (entries_from (length r) r at) name n
+    pub find-next : b ≡ false → located (entries_from (length r) r (at + (6 + l))) name (n + 1) ≡ located (entries_from (length r) r at) name n
     unfolding located
-    find-next t = rw (entries-step at (omega arith), ← g, t, f)
+    find-next t = let z : at + (6 + l) ≡ at + 6 + l = omega arith in rw (z, entries-step at (omega arith), ← g, t, f)
 
   pub find_none : (name : List ℕ) (at n m : ℕ) (f : Option Found) → located (entries_from (length r) r at) name n ≡ f → m ≡ length r → m ≤ at → None ≡ f
   unfolding located
@@ -69,10 +69,10 @@ module _ (r : List ℕ) where
         let w : m ≡ length (take (name_length r at) (drop (at + 6) r)) = rw (length-take, length-drop, ← f) (omega arith) in
         rw (entries-step at (omega arith), z) (λ j. Some (record { index = e j; at = at; length = w j }))
 
-    pub nth_next : (n : ℕ) → (n ≡ 0 → ⊥) → numbered (entries_from (length r) r (at + 6 + l)) (n - 1) ≡ numbered (entries_from (length r) r at) n
+    pub nth_next : (n : ℕ) → (n ≡ 0 → ⊥) → numbered (entries_from (length r) r (at + (6 + l))) (n - 1) ≡ numbered (entries_from (length r) r at) n
     unfolding numbered
     nth_next zero z = absurd (z refl)
-    nth_next (suc n) z = rw (entries-step at (omega arith), sub-one (suc n), f)
+    nth_next (suc n) z = let w : at + (6 + l) ≡ at + 6 + l = omega arith in rw (w, entries-step at (omega arith), sub-one (suc n), f)
 
   pub nth_none : (at n m : ℕ) (f : Option Row) → numbered (entries_from (length r) r at) n ≡ f → m ≡ length r → m ≤ at → None ≡ f
   unfolding numbered

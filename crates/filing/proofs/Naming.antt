@@ -4,45 +4,44 @@ use mathlib.Core.Logic.{◌≢◌}
 use mathlib.Core.Bool.{Bool, true, false, not}
 use mathlib.Core.List.{List, [], ◌∷◌}
 use Prim.Native.Nat.{ℕ, suc, ◌+◌, ◌-◌, min, ◌≤◌, ◌<◌}
-use native.Mathlib.Numerals.{add-one}
 use native.Mathlib.Omega.{arith}
-use lib.ListN.{length, get_or, drop, length-take, length-drop, drop_of_length-le}
-use lib.Seq.{drop-cons, get_or-take, get_or-drop}
-use lib.Dec.{eqb}
-use borrow.Author.Tests.{ne_eqb}
+use lib.ListN.{length, get_or, drop, length-take, length-drop}
+use lib.Seq.{get_or-take, get_or-drop}
+use lib.Dec.{eqb, leb}
 use Rattle.layout.specs.Limits.{slash, longest_name}
 use Rattle.layout.specs.Bytes.{holds, same, matches, both}
 use Rattle.layout.specs.Filing.{name_length, entry_at, good_name}
-use Rattle.laws.proofs.Picks.{leb_yes, leb_no}
-
--- ---- the slash
-
-module _ (name : List ℕ) (i x y : ℕ) (e : x ≡ get_or name i 0) (z : y ≡ slash) (h : i < length name) where
-  pub slash_here : x ≡ y → true ≡ holds slash (drop i name)
-  unfolding holds
-  slash_here f = rw (drop-cons name i 0 h, ← e, f, z) refl
-
-  pub slash_later : (x ≡ y → ⊥) → holds slash (drop (i + 1) name) ≡ holds slash (drop i name)
-  unfolding holds
-  slash_later f = rw (add-one i, drop-cons name i 0 h, ← e, ne_eqb slash x (λ u. f (sym u ∙ sym z)))
-
-pub slash_nowhere : (name : List ℕ) (i : ℕ) → length name ≤ i → false ≡ holds slash (drop i name)
-unfolding holds
-slash_nowhere name i h = rw (drop_of_length-le name {i = i} h)
+use Rattle.laws.proofs.Picks.{leb_yes, leb_no, eqb_yes, eqb_no}
+use Rattle.std.specs.List.{list_any}
+use Rattle.std.proofs.lemmas.Bool.{eqb-true, eqb-false}
+use native.Mathlib.Decide.{ℕ_discrete}
 
 -- ---- a good name
 
-pub name-short : (name : List ℕ) → length name < 1 → false ≡ good_name name
-unfolding good_name
-name-short name h = rw (leb_no {a = 1} {b = length name} h)
+slash_any : (name : List ℕ) → list_any (λ y. eqb y slash) name ≡ holds slash name
+unfolding holds
+slash_any [] = refl
+slash_any (x ∷ xs) = elim (ℕ_discrete x slash) [
+  | yes h ↦ rw (eqb_yes h, eqb_yes (sym h)) refl
+  | no h ↦ rw (eqb_no h, eqb_no (λ u. h (sym u)), slash_any xs)
+]
 
-pub name-long : (name : List ℕ) (n : ℕ) → n ≡ longest_name → n < length name → false ≡ good_name name
+pub name-short : (name : List ℕ) → eqb (length name) 0 ≡ true → false ≡ good_name name
 unfolding good_name
-name-long name n e h = rw (leb_yes {a = 1} {b = length name} (omega arith), leb_no {a = length name} {b = longest_name} (omega arith))
+name-short name h = rw (leb_no {a = 1} {b = length name} (omega (arith, eqb-true (length name) 0 h)))
 
-pub name-rest : (name : List ℕ) (n : ℕ) (r : Bool) → n ≡ longest_name → 1 ≤ length name → length name ≤ n → r ≡ holds slash name → not r ≡ good_name name
-unfolding good_name
-name-rest name n r e h k f = rw (leb_yes {a = 1} {b = length name} h, leb_yes {a = length name} {b = longest_name} (omega arith), f)
+module _ (name : List ℕ) (n : ℕ) (e : n ≡ longest_name) where
+  module _ (some : eqb (length name) 0 ≡ false) where
+    filled : 1 ≤ length name
+    filled = let z : length name ≢ 0 = eqb-false (length name) 0 some in omega arith
+
+    pub name-long : leb (length name) n ≡ false → false ≡ good_name name
+    unfolding good_name
+    name-long h = rw (leb_yes {a = 1} {b = length name} filled, ← e, h)
+
+    pub name-rest : (r : Bool) → leb (length name) n ≡ true → r ≡ list_any (λ y. eqb y slash) name → not r ≡ good_name name
+    unfolding good_name
+    name-rest r h f = rw (leb_yes {a = 1} {b = length name} filled, ← e, h, f, slash_any name)
 
 -- ---- compared
 
@@ -74,8 +73,8 @@ module _ (l name : List ℕ) (n m k : ℕ) (e : n ≡ name_length l 0) (f : m �
   long : length part ≡ m
   long = rw (length-take, length-drop) (omega arith)
 
-  pub name_other : m ≢ length name → false ≡ same part name
-  name_other h = same_length part name (λ u. h (sym long ∙ u))
+  pub name_other : m ≢ length name → eqb m (length name) ≡ same part name
+  name_other h = rw (eqb_no h) (same_length part name (λ u. h (sym long ∙ u)))
 
   pub name_compared : (r : Bool) → m ≡ length name → r ≡ matches l 6 name → r ≡ same part name
   name_compared r h u =

@@ -6,16 +6,21 @@ ghost use Rattle.layout.specs.Filing.{entry_bytes};
 ghost use Rattle.layout.specs.Ranges.{Small};
 ghost use Rattle.filing.specs.Edited.{entered, moved, drawn, removed};
 
+use crate::entries::HEAD;
 use laying::gather::gather_stream;
-use laying::lay::lay;
+use laying::lay::lay_stream;
 use layout::{Desc, Shape};
 use memory::bytes::put_number;
-use memory::numbers::{least, minus};
 use memory::runs::copy;
-use pyramids::pyramid::height;
 use stream::descs::stream;
 use stream::inside::lay_in_stream;
 use stream::lengths::{lengthen, shorten};
+
+// The bytes of an entry with the longest name.
+const LONGEST: usize = 70;
+
+// The bytes that are pulled at a time.
+const MOVED: usize = 4096;
 
 // An entry as it is written goes to the start of `page`.
 fn put_entry(page: &mut [u8], index: usize, name: &[u8])
@@ -23,7 +28,7 @@ fn put_entry(page: &mut [u8], index: usize, name: &[u8])
 {
     put_number(page, 0, 4, index);
     put_number(page, 4, 2, name.len());
-    copy(page, 6, name, 0, name.len());
+    copy(page, HEAD, name, 0, name.len());
 }
 
 // Directory `k`, which is `p` bytes long, gets an entry at its end.
@@ -31,8 +36,8 @@ pub fn append(card: &mut [u8], s: Shape, k: usize, p: usize, index: usize, name:
     requires { Small card.old s × (k < 2 ^ 56) × (p < 2 ^ 61) × (length name.now ≤ 64) }
     ensures { card.new ≡ entered card.old s k p index name.now }
 {
-    let n = 6 + name.len();
-    let mut page = [0; 70];
+    let n = HEAD + name.len();
+    let mut page = [0; LONGEST];
     put_entry(&mut page, index, name);
     lengthen(card, s, k, p + n);
     lay_in_stream(card, s, k, p, &page, n);
@@ -43,10 +48,9 @@ fn pull_page(card: &mut [u8], s: Shape, t: Desc, p: usize, q: usize, n: usize)
     requires { Small card.old s × (p < 2 ^ 62) × (n ≤ 4096) × (q + n ≤ t.size) }
     ensures { card.new ≡ moved card.old s t p q n }
 {
-    let h = height(s.size / 4, t.reserved / s.size);
-    let mut page = [0; 4096];
+    let mut page = [0; MOVED];
     gather_stream(card, s, t, q, &mut page, 0, n);
-    lay(card, s, t.top, h, p, &page, 0, n);
+    lay_stream(card, s, t, p, &page, 0, n);
 }
 
 // What the stream that `t` describes has from place `q` on is pulled forward to place `p`, page by page.
@@ -55,13 +59,9 @@ pub fn pull(card: &mut [u8], s: Shape, t: Desc, p: usize, q: usize)
     ensures { card.new ≡ drawn t.size card.old s t p q }
 {
     let size = t.size;
-    let mut to = p;
-    let mut from = q;
-    while from < size {
-        let n = least(4096, size - from);
-        pull_page(card, s, t, to, from, n);
-        to += n;
-        from += n;
+    for from in (q..size).step_by(MOVED) {
+        let n = MOVED.min(size - from);
+        pull_page(card, s, t, p + (from - q), from, n);
     }
 }
 
@@ -72,5 +72,5 @@ pub fn remove(card: &mut [u8], s: Shape, k: usize, at: usize, n: usize, marks: &
 {
     let t = stream(card, s, k);
     pull(card, s, t, at, at + n);
-    shorten(card, s, k, minus(t.size, n), marks);
+    shorten(card, s, k, t.size.saturating_sub(n), marks);
 }

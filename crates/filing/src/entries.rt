@@ -10,10 +10,12 @@ use crate::names::name_is;
 use crate::pages::{PAGE, PIECE, turn};
 use layout::{Desc, Shape};
 use memory::bytes::number;
-use memory::numbers::least;
 use stream::descs::stream;
 
-// The first 6 bytes of an entry: the index of its stream, and the length of its name.
+// The bytes of an entry before its name.
+pub const HEAD: usize = 6;
+
+// What these say: the index of its stream, and the length of its name.
 #[derive(Clone, Copy)]
 pub struct Head {
     pub index: usize,
@@ -48,10 +50,11 @@ pub fn find(card: &[u8], s: Shape, t: Desc, name: &[u8]) -> Option<Found>
     let mut from = size;
     let mut at = 0;
     let mut number = 0;
+    // The step is the entry's own length, which only its page tells, so no `for`; an iterator would lend its page with each entry.
     while at < size {
         from = turn(&*card, s, t, &mut page, from, at);
         let o = at - from;
-        let e = o + least(PIECE, size - at);
+        let e = o + PIECE.min(size - at);
         let h = read_head(&page[o..e]);
         if name_is(&page[o..e], &*name) {
             return Some(Found {
@@ -60,7 +63,7 @@ pub fn find(card: &[u8], s: Shape, t: Desc, name: &[u8]) -> Option<Found>
                 at,
             });
         }
-        at = at + 6 + h.length;
+        at += HEAD + h.length;
         number += 1;
     }
     None

@@ -5,10 +5,9 @@ ghost use Rattle.layout.specs.Filing.{entries};
 ghost use Rattle.layout.specs.Ranges.{Small};
 ghost use Rattle.filing.specs.Located.{numbered};
 
-use crate::entries::read_head;
+use crate::entries::{HEAD, read_head};
 use crate::pages::{PAGE, PIECE, turn};
 use layout::{Desc, Shape};
-use memory::numbers::{least, minus};
 
 // An entry: its stream's index, where it starts, its name's length.
 #[derive(Clone, Copy)]
@@ -29,19 +28,20 @@ pub fn nth_entry(card: &[u8], s: Shape, t: Desc, n: usize) -> Option<Row>
     let mut from = size;
     let mut at = 0;
     let mut left = n;
+    // As in `find`: the step is the entry's own length.
     while at < size {
         from = turn(&*card, s, t, &mut page, from, at);
         let o = at - from;
-        let e = o + least(PIECE, size - at);
+        let e = o + PIECE.min(size - at);
         let h = read_head(&page[o..e]);
         if left == 0 {
             return Some(Row {
                 index: h.index,
                 at,
-                length: least(h.length, minus(size, at + 6)),
+                length: h.length.min(size.saturating_sub(at + HEAD)),
             });
         }
-        at = at + 6 + h.length;
+        at += HEAD + h.length;
         left -= 1;
     }
     None

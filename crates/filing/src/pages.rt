@@ -9,7 +9,6 @@ ghost use Rattle.filing.specs.Paged.{Paged, Turned};
 use crate::names::name_is;
 use laying::gather::gather_stream;
 use layout::{Desc, Shape};
-use memory::numbers::{least, minus};
 
 // The bytes of a page: seven entries with the longest name, or many with short ones.
 pub const PAGE: usize = 512;
@@ -23,10 +22,8 @@ pub fn turn(card: &[u8], s: Shape, t: Desc, page: &mut [u8], from: usize, at: us
     requires { Small card.now s × Paged page.old from (contents card.now s t.top (data_of s t) t.size) }
     ensures { Turned page.new result at (contents card.now s t.top (data_of s t) t.size) }
 {
-    if from <= at {
-        if at - from <= PAGE - PIECE {
-            return from;
-        }
+    if from <= at && at - from <= PAGE - PIECE {
+        return from;
     }
     gather_stream(&*card, s, t, at, page, 0, PAGE);
     at
@@ -39,6 +36,6 @@ pub fn name_at(card: &[u8], s: Shape, t: Desc, at: usize, name: &[u8]) -> bool
 {
     let mut piece = [0; PIECE];
     gather_stream(&*card, s, t, at, &mut piece, 0, PIECE);
-    let e = least(PIECE, minus(t.size, at));
+    let e = PIECE.min(t.size.saturating_sub(at));
     name_is(&piece[0..e], &*name)
 }

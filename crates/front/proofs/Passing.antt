@@ -1,5 +1,5 @@
 -- A card that passed the check, and a name looked for on it: what the acts ask for is there.
-use mathlib.Core.Path.{◌≡◌, sym, ap, subst, ◌∙◌}
+use mathlib.Core.Path.{◌≡◌, sym, ap, subst}
 use mathlib.Core.Bool.{Bool, true, false}
 use mathlib.Core.List.{List}
 use Prim.Native.Nat.{ℕ, ◌+◌, ◌^◌, ◌≤◌, ◌<◌}
@@ -38,8 +38,8 @@ eight c =
 pub rule-low : (c : List ℕ) (r : ℕ) → r ≡ broken c → r < 256
 rule-low c r e = omega (arith, e, eight c)
 
-pub shift_fits : (c : List ℕ) (r : ℕ) → r ≡ broken c → r ≡ 0 → shift_of c ≤ 12
-shift_fits c r e z = (sound c (sym e ∙ z)).core.headed.most
+pub shift_fits : (c : List ℕ) → 0 ≡ broken c → shift_of c ≤ 12
+shift_fits c z = (sound c (sym z)).core.headed.most
 
 pub name_fits : (name : List ℕ) (q : Bool) → q ≡ good_name name → q ≡ true → length name ≤ 64
 name_fits name q e t = good_short name (rw (← e, t) tt)

@@ -5,62 +5,45 @@
 ghost use Rattle.std.specs.Prelude.{◌≡◌};
 ghost use Rattle.front.specs.Fronts.{examined_of, sought_of};
 
-use filing::entries::look_up;
+use filing::entries::{Found, look_up};
 use filing::names::good_name;
 use heading::header::shape;
 use layout::Shape;
 use layout::answers::Refusal;
 
-// Any bytes, checked: the lowest broken rule, or how the card is cut and how many blocks are free.
+// A card that passed the check: how it is cut, and how many blocks are free.
 #[derive(Clone, Copy)]
-pub enum Examined {
-    Damaged(u8),
-    Sound(Shape, usize),
+pub struct Examined {
+    pub shape: Shape,
+    pub free: usize,
 }
 
-// A name, sought on any bytes: why it is not sought, that it is not known, or its stream's index and where its entry starts.
+// A name sought on such a card: how the card is cut, and where in the root the name is, if it is known.
 #[derive(Clone, Copy)]
-pub enum Sought {
-    Refused(Refusal),
-    Unknown(Shape),
-    Known {
-        shape: Shape,
-        index: usize,
-        at: usize,
-    },
+pub struct Sought {
+    pub shape: Shape,
+    pub found: Option<Found>,
 }
 
-// The card, checked.
-pub fn examine(card: &[u8]) -> Examined
+// Any bytes, checked.
+pub fn examine(card: &[u8]) -> Result<Examined, Refusal>
     ensures { result ≡ examined_of card.now }
 {
-    let v = sound::check::check(card);
-    let rule = v.rule;
-    if rule != 0 {
-        return Examined::Damaged(rule as u8);
-    }
-    Examined::Sound(shape(card), v.free)
+    let free = sound::check::check(card)?;
+    Ok(Examined {
+        shape: shape(card),
+        free,
+    })
 }
 
-// The card checked, the name judged, and then sought in the root.
-pub fn seek(card: &[u8], name: &[u8]) -> Sought
+// Any bytes checked, the name judged, and then sought in the root.
+pub fn seek(card: &[u8], name: &[u8]) -> Result<Sought, Refusal>
     ensures { result ≡ sought_of card.now name.now }
 {
-    match examine(card) {
-        Examined::Damaged(rule) => Sought::Refused(Refusal::Damaged(rule)),
-        Examined::Sound(s, _) => {
-            if !good_name(name) {
-                return Sought::Refused(Refusal::BadName);
-            }
-            let f = look_up(card, s, 0, name);
-            if !f.known {
-                return Sought::Unknown(s);
-            }
-            Sought::Known {
-                shape: s,
-                index: f.index,
-                at: f.at,
-            }
-        }
+    let shape = examine(card)?.shape;
+    if !good_name(name) {
+        return Err(Refusal::BadName);
     }
+    let found = look_up(card, shape, 0, name);
+    Ok(Sought { shape, found })
 }

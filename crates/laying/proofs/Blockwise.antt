@@ -2,7 +2,7 @@
 use mathlib.Core.Path.{◌≡◌, refl, sym, ap, ◌∙◌}
 use mathlib.Core.List.{List, [], ◌∷◌, ◌++◌, map}
 use Prim.Native.Nat.{ℕ, zero, suc, ◌+◌, ◌-◌, ◌*◌, ◌/◌, ◌%◌, min, ◌≤◌, ◌<◌}
-use native.Mathlib.Nat.{add-zero, zero-add, add-mul, mod-lt, div-add-mod', mul-le-mul, mul-pos, mul-le-mul_right, min-eq_left, min-eq_right}
+use native.Mathlib.Nat.{add-zero, zero-add, add-mul, mod-lt, div-add-mod', div-le_self, mul-le-mul, mul-le-mul_right, min-eq_left, min-eq_right}
 use native.Mathlib.Decide.{dec_le, dec_lt}
 use native.Mathlib.Omega.{arith}
 use lib.ListN.{length, get_or, take, drop, drop_of_length-le}
@@ -14,35 +14,20 @@ use Rattle.layout.specs.Ranges.{Small}
 use Rattle.laws.proofs.ByteLaws.{over-append, over-take}
 use Rattle.laws.proofs.Windows.{window_past}
 use Rattle.laws.proofs.Levels.{div_is, mod_is}
-use Rattle.blocks.proofs.Near.{cap, far, fan_pos}
-use Rattle.std.specs.Int.{div_ceil}
-use Rattle.std.proofs.lemmas.Grind.{div_ceil_times}
+use Rattle.blocks.proofs.Near.{cap, far}
 use Rattle.laying.specs.Gathered.{gathered}
 use Rattle.layout.specs.declared.Shape.{Shape}
 
--- the bytes below one redirector
-pub row_pos : (s : Shape) → 64 ≤ s.size → 0 < fan s * s.size
-row_pos s least = mul-pos (fan_pos s.size least) (omega arith)
+-- ---- numbers of one row
 
-pub row_fits : (s : Shape) → s.size ≤ 4096 → fan s * s.size ≤ 4194304
-row_fits s most = let a : fan s ≤ 1024 = omega arith in omega (arith, mul-le-mul a most)
+pub row_fits : (s : Shape) (i : ℕ) → s.size ≤ 4096 → (fan s - i) * s.size ≤ 4194304
+row_fits s i most = let a : fan s - i ≤ 1024 = omega arith in omega (arith, mul-le-mul a most)
 
--- ---- a run of bytes cut into parts
+pub row_low : (s : Shape) (p : ℕ) → p / s.size / fan s ≤ p
+row_low s p = omega (arith, div-le_self p s.size, div-le_self (p / s.size) (fan s))
 
-module _ (size p n : ℕ) (some : 0 < size) where
-  pub part_low : (k : ℕ) → p / size ≤ k → p < k * size + size
-  part_low k h = omega (arith, div-add-mod' p size, mod-lt p some, mul-le-mul_right size h)
-
-  -- where the loop ends
-  module _ (end k : ℕ) (e : end ≡ div_ceil (p + n) size) where
-    times : (end * size < p + n + size) × (p + n ≤ end * size)
-    times = let w = div_ceil_times (p + n) size some in (rw e w.1, rw e w.0)
-
-    pub part_high : k < end → k * size < p + n
-    part_high h = let a : (k + 1) * size ≤ end * size = mul-le-mul_right size (omega arith) in omega (arith, times.0, add-mul k 1 size)
-
-    pub part_end : end ≤ k → n ≤ k * size - p
-    part_end h = omega (arith, times.1, mul-le-mul_right size h)
+pub row_room : (s : Shape) (i r : ℕ) → i < fan s → r < s.size → r < (fan s - i) * s.size
+row_room s i r h k = let one : 1 * s.size ≤ (fan s - i) * s.size = mul-le-mul_right s.size (omega arith) in omega arith
 
 -- a block number above 2^32 is past the end of every card
 pub window-near : (c : List ℕ) (s : Shape) → Small c s → (b r n : ℕ) → window c (place s (min b cap) + r) n ≡ window c (place s b + r) n
@@ -89,40 +74,49 @@ module _ (c : List ℕ) (s : Shape) (block : ℕ → ℕ) where
       let f : place s (block k) + r + 1 ≡ place s (block k) + (r + 1) = omega arith in
       rw (dv, md, e, f) (ap (λ (t : List ℕ). get_or c (place s (block k) + r) 0 ∷ t) (gathered-block k (r + 1) n (omega arith)))
 
-  module _ (size p n k from done m at : ℕ) (low : p < k * size + size) (high : k * size < p + n) (e : from ≡ p - k * size) (f : done ≡ k * size - p) (g : m ≡ min (size - from) (n - done)) where
-    -- what a part's piece is done, and the rest goes on behind it
-    pub part-turn : (tray tray₁ piece : List ℕ) → gathered c s block (p + done) m ≡ piece → tray₁ ≡ over tray (at + done) piece
-        → over tray₁ (at + ((k + 1) * size - p)) (gathered c s block (p + ((k + 1) * size - p)) (n - ((k + 1) * size - p)))
-        ≡ over tray (at + (k * size - p)) (gathered c s block (p + (k * size - p)) (n - (k * size - p)))
-    part-turn tray tray₁ piece u v =
-        let left = n - done in
-        let next = (k + 1) * size - p in
-        let z : (k + 1) * size ≡ k * size + size = omega (arith, add-mul k 1 size) in
-        let t : left ≡ m + (left - m) = omega arith in
-        let whole : gathered c s block (p + done) left ≡ piece ++ gathered c s block (p + done + m) (left - m) = ap (gathered c s block (p + done)) t ∙ gathered-append (p + done) m (left - m) ∙ rw u in
-        let long : length piece ≡ m = ap length (sym u) ∙ length-gathered (p + done) m in
-        let rest : over tray₁ (at + next) (gathered c s block (p + next) (n - next)) ≡ over tray₁ (at + done + m) (gathered c s block (p + done + m) (left - m)) = elim (dec_lt m left) [
-          | yes l ↦ (let w : next ≡ done + m = omega arith in
-              let w₁ : at + (done + m) ≡ at + done + m = omega arith in
-              let w₂ : p + (done + m) ≡ p + done + m = omega arith in
-              let w₃ : n - (done + m) ≡ left - m = omega arith in
-              rw (w, w₁, w₂, w₃))
-          | no l ↦ sym (gathered_end tray₁ (at + next) (p + next) (n - next) (omega arith)) ∙ gathered_end tray₁ (at + done + m) (p + done + m) (left - m) (omega arith)
-        ] in
-        rest ∙ rw (← f, whole, over-append, long, ← v)
+  -- a piece is done, and the rest goes on behind it
+  pub piece_turn : (p p' m left to : ℕ) (tray tray₁ piece : List ℕ) → m ≤ left → gathered c s block p m ≡ piece → (m < left → p' ≡ p + m) → tray₁ ≡ over tray to piece
+      → over tray₁ (to + m) (gathered c s block p' (left - m)) ≡ over tray to (gathered c s block p left)
+  piece_turn p p' m left to tray tray₁ piece h e f g =
+      let t : left ≡ m + (left - m) = omega arith in
+      let rest : gathered c s block p' (left - m) ≡ gathered c s block (p + m) (left - m) = elim (dec_lt m left) [
+        | yes l ↦ rw (f l)
+        | no l ↦ gathered_none p' (left - m) (omega arith) ∙ sym (gathered_none (p + m) (left - m) (omega arith))
+      ] in
+      let whole : gathered c s block p left ≡ piece ++ gathered c s block (p + m) (left - m) = ap (gathered c s block p) t ∙ gathered-append p m (left - m) ∙ rw e in
+      let n : length piece ≡ m = ap length (sym e) ∙ length-gathered p m in
+      rw (g, rest, whole, over-append, n)
 
-  pub block-turn : (p n k from done m at : ℕ) (low : p < k * s.size + s.size) (high : k * s.size < p + n) (e : from ≡ p - k * s.size) (f : done ≡ k * s.size - p) (g : m ≡ min (s.size - from) (n - done))
-      (b : ℕ) (tray tray₁ : List ℕ) → b ≡ block k → tray₁ ≡ over tray (at + done) (window c (place s b + from) m)
-      → over tray₁ (at + ((k + 1) * s.size - p)) (gathered c s block (p + ((k + 1) * s.size - p)) (n - ((k + 1) * s.size - p)))
-      ≡ over tray (at + (k * s.size - p)) (gathered c s block (p + (k * s.size - p)) (n - (k * s.size - p)))
-  block-turn p n k from done m at low high e f g b tray tray₁ a v =
-      let w : p + done ≡ k * s.size + from = omega arith in
-      part-turn s.size p n k from done m at low high e f g tray tray₁ (window c (place s (block k) + from) m) (rw w (gathered-block k from m (omega arith))) (rw a at v)
+  pub block-turn : (k r m left to b : ℕ) (tray tray₁ : List ℕ) → r < s.size → m ≡ min (s.size - r) left → b ≡ block k → tray₁ ≡ over tray to (window c (place s b + r) m)
+      → over tray₁ (to + m) (gathered c s block ((k + 1) * s.size + 0) (left - m)) ≡ over tray to (gathered c s block (k * s.size + r) left)
+  block-turn k r m left to b tray tray₁ low e a g =
+      let z : (k + 1) * s.size ≡ k * s.size + s.size = omega (arith, add-mul k 1 s.size) in
+      piece_turn (k * s.size + r) ((k + 1) * s.size + 0) m left to tray tray₁ _ (omega arith) (rw a (gathered-block k r m (omega arith))) (λ l. omega arith) g
 
--- a stream without redirectors has one block, whatever number is asked for
-pub only_top : (c : List ℕ) (s : Shape) (top k : ℕ) {r : ℕ} → r ≡ top → r ≡ node c s top 0 k
-unfolding node
-only_top c s top k e = e
+-- ---- one block, over and over
+
+module _ (c : List ℕ) (s : Shape) (some : 0 < s.size) (top : ℕ) where
+  abbrev all : ℕ → ℕ → List ℕ
+  all = gathered c s (node c s top 0)
+
+  pub same-top : (k p n : ℕ) → all (k * s.size + p) n ≡ all p n
+  unfolding gathered node
+  same-top k p zero = refl
+  same-top k p (suc n) =
+      let x = k * s.size + p in
+      let u = div-add-mod' p s.size in
+      let z : (k + p / s.size) * s.size ≡ k * s.size + p / s.size * s.size = add-mul k (p / s.size) s.size in
+      let md : x % s.size ≡ p % s.size = mod_is (k + p / s.size) (omega arith) (mod-lt p some) in
+      let e : x + 1 ≡ k * s.size + (p + 1) = omega arith in
+      rw (md, e) (ap (λ (t : List ℕ). get_or c (place s top + p % s.size) 0 ∷ t) (same-top k (p + 1) n))
+
+  pub top_start : (p n : ℕ) → all (0 * s.size + p % s.size) n ≡ all p n
+  top_start p n = same-top 0 (p % s.size) n ∙ sym (same-top (p / s.size) (p % s.size) n) ∙ ap (λ (q : ℕ). all q n) (div-add-mod' p s.size)
+
+  -- whatever number is asked for
+  pub only_top : (k : ℕ) {x : ℕ} → x ≡ top → x ≡ node c s top 0 k
+  unfolding node
+  only_top k e = e
 
 -- ---- the blocks below one redirector
 
@@ -144,16 +138,41 @@ module _ (c : List ℕ) (s : Shape) (some : 0 < s.size) (top : ℕ) (h : ℕ) wh
       let e : p + 1 ≡ q * fan s * z + (x + 1) = omega arith in
       rw (dv, md, e, up_is, slot_is) (ap (λ (t : List ℕ). get_or c (place s (slot c s (node c s top h q) y) + x % z) 0 ∷ t) (below q (x + 1) m (omega arith)))
 
+  row-turn : (q i r m left to : ℕ) (tray tray₁ : List ℕ) → i < fan s → r < s.size → m ≡ min ((fan s - i) * s.size - r) left
+      → tray₁ ≡ over tray to (gathered c s (slot c s (node c s top h q)) (i * s.size + r) m)
+      → over tray₁ (to + m) (gathered c s (node c s top (suc h)) (((q + 1) * fan s + 0) * s.size + 0) (left - m))
+      ≡ over tray to (gathered c s (node c s top (suc h)) ((q * fan s + i) * s.size + r) left)
+  row-turn q i r m left to tray tray₁ low low' e g =
+      let z = s.size in
+      let f = fan s in
+      let w : i * z + (f - i) * z ≡ f * z = let t : i + (f - i) ≡ f = omega arith in sym (add-mul i (f - i) z) ∙ ap (λ (x : ℕ). x * z) t in
+      let a : (q * f + i) * z + r ≡ q * f * z + (i * z + r) = omega (arith, add-mul (q * f) i z) in
+      let y : (q + 1) * f + 0 ≡ q * f + f = omega (arith, add-mul q 1 f) in
+      let b : ((q + 1) * f + 0) * z ≡ q * f * z + f * z = ap (λ (t : ℕ). t * z) y ∙ add-mul (q * f) f z in
+      let one : 1 * z ≤ (f - i) * z = mul-le-mul_right z (omega arith) in
+      let piece = ap (λ (t : ℕ). gathered c s (node c s top (suc h)) t m) a ∙ below q (i * z + r) m (omega arith) in
+      piece_turn c s (node c s top (suc h)) ((q * f + i) * z + r) (((q + 1) * f + 0) * z + 0) m left to tray tray₁ _ (omega arith) piece (λ l. omega arith) g
+
+  rows_start : (p n : ℕ) → gathered c s (node c s top (suc h)) ((p / s.size / fan s * fan s + p / s.size % fan s) * s.size + p % s.size) n
+      ≡ gathered c s (node c s top (suc h)) p n
+  rows_start p n =
+      let e : (p / s.size / fan s * fan s + p / s.size % fan s) * s.size + p % s.size ≡ p = rw (div-add-mod' (p / s.size) (fan s)) (div-add-mod' p s.size) in
+      ap (λ (t : ℕ). gathered c s (node c s top (suc h)) t n) e
+
 module _ (c : List ℕ) (s : Shape) (some : 0 < s.size) (top : ℕ) where
-  pub rows_turn : (h p n q from done m at : ℕ) (low : p < q * (fan s * s.size) + fan s * s.size) (high : q * (fan s * s.size) < p + n) (e : from ≡ p - q * (fan s * s.size)) (f : done ≡ q * (fan s * s.size) - p) (g : m ≡ min (fan s * s.size - from) (n - done))
-      (b : ℕ) (tray tray₁ : List ℕ) → 0 < h → b ≡ node c s top (h - 1) q → tray₁ ≡ over tray (at + done) (gathered c s (slot c s b) from m)
-      → over tray₁ (at + ((q + 1) * (fan s * s.size) - p)) (gathered c s (node c s top h) (p + ((q + 1) * (fan s * s.size) - p)) (n - ((q + 1) * (fan s * s.size) - p)))
-      ≡ over tray (at + (q * (fan s * s.size) - p)) (gathered c s (node c s top h) (p + (q * (fan s * s.size) - p)) (n - (q * (fan s * s.size) - p)))
-  rows_turn zero p n q from done m at low high e f g b tray tray₁ l a v = absurd (omega arith)
-  rows_turn (suc h) p n q from done m at low high e f g b tray tray₁ l a v =
+  pub rows_turn : (h q i r m left to b : ℕ) (tray tray₁ : List ℕ) → 0 < h → i < fan s → r < s.size → m ≡ min ((fan s - i) * s.size - r) left → b ≡ node c s top (h - 1) q
+      → tray₁ ≡ over tray to (gathered c s (slot c s b) (i * s.size + r) m)
+      → over tray₁ (to + m) (gathered c s (node c s top h) (((q + 1) * fan s + 0) * s.size + 0) (left - m))
+      ≡ over tray to (gathered c s (node c s top h) ((q * fan s + i) * s.size + r) left)
+  rows_turn zero q i r m left to b tray tray₁ l u v e a g = absurd (omega arith)
+  rows_turn (suc h) q i r m left to b tray tray₁ l u v e a g =
       let t : suc h - 1 ≡ h = omega arith in
-      let w : p + done ≡ q * fan s * s.size + from = omega arith in
-      part-turn c s (node c s top (suc h)) (fan s * s.size) p n q from done m at low high e f g tray tray₁ (gathered c s (slot c s (node c s top h q)) from m) (rw w (below c s some top h q from m (omega arith))) (rw (a, t) at v)
+      row-turn c s some top h q i r m left to tray tray₁ u v e (rw (a, t) at g)
+
+  pub rows_begin : (h p n : ℕ) → 0 < h → gathered c s (node c s top h) ((p / s.size / fan s * fan s + p / s.size % fan s) * s.size + p % s.size) n
+      ≡ gathered c s (node c s top h) p n
+  rows_begin zero p n l = absurd (omega arith)
+  rows_begin (suc h) p n l = rows_start c s some top h p n
 
 -- ---- a stream's contents
 

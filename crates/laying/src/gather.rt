@@ -7,7 +7,6 @@ ghost use Rattle.layout.specs.Ranges.{Small};
 ghost use Rattle.laying.specs.Gathered.{gathered};
 
 use crate::levels::levels;
-use crate::parts::piece_in;
 use blocks::places::{place, slot};
 use blocks::reader::node;
 use layout::{Desc, Shape};
@@ -21,28 +20,39 @@ fn gather_block(card: &[u8], s: Shape, b: usize, r: usize, tray: &mut [u8], at: 
     fetch(tray, at, &*card, place(s, b) + r, n);
 }
 
-// `n` bytes from place `p` on go to `tray` from `at` on, out of the blocks that `block` names one after the other.
+// `n` bytes go to `tray` from `at` on, out of the blocks that `block` names by their numbers, from byte `r` of block `i` on.
 fn gather_blocks<F: Fn(usize) -> usize>(
     card: &[u8],
     s: Shape,
     block: F,
-    p: usize,
+    i: usize,
+    r: usize,
     tray: &mut [u8],
     at: usize,
     n: usize,
 )
-    requires fits { Small card.now s × (at + n ≤ length tray.old) × (p + n < 2 ^ 64) }
-    requires named { (k : ℕ) → k ≤ p + n → F.pre block k }
-    ensures { (b : ℕ → ℕ) → ((k r : ℕ) → F.post block k r → r ≡ b k) → tray.new ≡ over tray.old at (gathered card.now s b p n) }
+    requires fits { Small card.now s × (r < s.size) × (i + n < 2 ^ 64) × (at + n ≤ length tray.old) }
+    requires named { (k : ℕ) → k ≤ i + n → F.pre block k }
+    ensures { (b : ℕ → ℕ) → ((k x : ℕ) → F.post block k x → x ≡ b k) → tray.new ≡ over tray.old at (gathered card.now s b (i * s.size + r) n) }
 {
     let size = s.size;
-    for k in p / size..(p + n).div_ceil(size) {
-        let x = piece_in(size, p, n, k);
-        gather_block(&*card, s, block(k), x.from, tray, at + x.done, x.n);
+    let mut k = i;
+    let mut from = r;
+    let mut to = at;
+    let mut left = n;
+    // A `for` over the blocks was tried: its number and its end are kept beside what the copy needs, and 64 KiB in blocks of 64
+    // bytes took a third longer.
+    while 0 < left {
+        let m = (size - from).min(left);
+        gather_block(&*card, s, block(k), from, tray, to, m);
+        k += 1;
+        from = 0;
+        to += m;
+        left -= m;
     }
 }
 
-// The same of a stream with redirectors: the blocks below each block of level 1 in turn.
+// `n` bytes from place `p` on of a stream with redirectors: the blocks below each block of level 1 in turn.
 fn gather_rows(
     card: &[u8],
     s: Shape,
@@ -56,12 +66,25 @@ fn gather_rows(
     requires { Small card.now s × (0 < h) × (at + n ≤ length tray.old) × (p + n < 2 ^ 64) }
     ensures { tray.new ≡ over tray.old at (gathered card.now s (node card.now s top h) p n) }
 {
-    let row = s.size / 4 * s.size;
-    for q in p / row..(p + n).div_ceil(row) {
-        let x = piece_in(row, p, n, q);
+    let size = s.size;
+    let f = size / 4;
+    let first = p / size / f;
+    let mut i = p / size % f;
+    let mut r = p % size;
+    let mut to = at;
+    let mut left = n;
+    // There are no more rows than bytes, so `left` ends it. How many there are only a division tells.
+    for q in first..first + n {
+        if left == 0 {
+            return;
+        }
+        let m = ((f - i) * size - r).min(left);
         let b = node(&*card, s, top, h - 1, q);
-        let below = |k: usize| slot(&*card, s, b, k);
-        gather_blocks(&*card, s, below, x.from, tray, at + x.done, x.n);
+        gather_blocks(&*card, s, |k| slot(&*card, s, b, k), i, r, tray, to, m);
+        i = 0;
+        r = 0;
+        to += m;
+        left -= m;
     }
 }
 
@@ -79,7 +102,7 @@ pub fn gather_stream(card: &[u8], s: Shape, t: Desc, p: usize, tray: &mut [u8], 
     let top = t.top;
     let h = levels(s, t);
     if h == 0 {
-        gather_blocks(&*card, s, |_| top, p, tray, at, m);
+        gather_blocks(&*card, s, |_| top, 0, p % s.size, tray, at, m);
     } else {
         gather_rows(&*card, s, top, h, p, tray, at, m);
     }

@@ -6,7 +6,6 @@ ghost use Rattle.layout.specs.Streams.{data_of, tall, laid_row, laid};
 ghost use Rattle.layout.specs.Ranges.{Small};
 
 use crate::levels::levels;
-use crate::parts::piece_in;
 use blocks::places::{place, slot};
 use blocks::reader::node;
 use layout::{Desc, Shape};
@@ -21,16 +20,34 @@ fn lay_block(card: &mut [u8], s: Shape, b: usize, r: usize, given: &[u8], from: 
     copy(card, at, &*given, from, n);
 }
 
-// `n` bytes of `given` from `from` on go into the blocks that the slots of block `b` name, from place `p` of these on.
-fn lay_row(card: &mut [u8], s: Shape, b: usize, p: usize, given: &[u8], from: usize, n: usize)
-    requires { Small card.old s × (p + n ≤ 4294967296) × (from + n ≤ length given.now) }
-    ensures { card.new ≡ laid_row n card.old s b (p / s.size) (p % s.size) (take n (drop from given.now)) }
+// `n` bytes of `given` from `from` on go into the blocks that the slots of block `b` name, from byte `r` of slot `i`'s block on.
+fn lay_row(
+    card: &mut [u8],
+    s: Shape,
+    b: usize,
+    i: usize,
+    r: usize,
+    given: &[u8],
+    from: usize,
+    n: usize,
+)
+    requires { Small card.old s × (r < s.size) × (i + n ≤ 4294967296) × (from + n ≤ length given.now) }
+    ensures { card.new ≡ laid_row n card.old s b i r (take n (drop from given.now)) }
 {
     let size = s.size;
-    for k in p / size..(p + n).div_ceil(size) {
-        let x = piece_in(size, p, n, k);
-        let to = slot(card, s, b, k);
-        lay_block(card, s, to, x.from, &*given, from + x.done, x.n);
+    let mut at = r;
+    let mut q = from;
+    let mut left = n;
+    // There are no more blocks than bytes, so `left` ends it. How many there are only a division tells.
+    for k in i..i + n {
+        if left == 0 {
+            return;
+        }
+        let m = (size - at).min(left);
+        lay_block(card, s, slot(card, s, b, k), at, &*given, q, m);
+        at = 0;
+        q += m;
+        left -= m;
     }
 }
 
@@ -52,11 +69,24 @@ pub fn lay(
         lay_block(card, s, top, p, &*given, from, n);
         return;
     }
-    let row = s.size / 4 * s.size;
-    for q in p / row..(p + n).div_ceil(row) {
-        let x = piece_in(row, p, n, q);
-        let b = node(card, s, top, h - 1, q);
-        lay_row(card, s, b, x.from, &*given, from + x.done, x.n);
+    let size = s.size;
+    let f = size / 4;
+    let first = p / size / f;
+    let mut i = p / size % f;
+    let mut r = p % size;
+    let mut at = from;
+    let mut left = n;
+    // No more rows than bytes.
+    for q in first..first + n {
+        if left == 0 {
+            return;
+        }
+        let m = ((f - i) * size - r).min(left);
+        lay_row(card, s, node(card, s, top, h - 1, q), i, r, &*given, at, m);
+        i = 0;
+        r = 0;
+        at += m;
+        left -= m;
     }
 }
 

@@ -4,4 +4,3 @@
 pub mod gather;
 pub mod lay;
 mod levels;
-mod parts;

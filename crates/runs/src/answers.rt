@@ -1,86 +1,82 @@
 // What a call answered, in the numbers that are printed.
-ghost use Rattle.std.specs.Prelude.{◌≡◌};
+ghost use Rattle.std.specs.Prelude.{◌≡◌, MatchResult};
 ghost use Rattle.layout.specs.Answers.{number_of, rule_of};
 
-use layout::answers::{Counted, Done, Listed, Refusal, Sized};
-use memory::numbers::wide;
+use layout::answers::{Listed, Refusal};
+use std::fmt;
 
 // The number, the rule or the name's length, the count or the size.
-#[derive(Clone, Copy)]
+#[derive(Clone, Copy, Default)]
 pub struct Answer {
     pub number: usize,
     pub small: usize,
     pub large: usize,
 }
 
-// A refusal's numbers.
-fn no(number: usize, rule: usize) -> Answer
-    ensures { (result.number ≡ number) × (result.small ≡ rule) × (result.large ≡ 0) }
-{
-    Answer {
-        number: number,
-        small: rule,
-        large: 0,
+impl fmt::Display for Answer {
+    fn fmt<W: fmt::Write>(&self, f: &mut fmt::Formatter<W>) -> fmt::Result {
+        write!(f, "{} {} {}", self.number, self.small, self.large)
     }
 }
 
-// A refusal.
-fn refused(r: Refusal) -> Answer
-    ensures { (result.number ≡ number_of r) × (result.small ≡ rule_of r) × (result.large ≡ 0) }
-{
-    match r {
-        Refusal::Damaged(rule) => no(1, wide(rule)),
-        Refusal::BadName => no(2, 0),
-        Refusal::NotKnown => no(3, 0),
-        Refusal::AlreadyKnown => no(4, 0),
-        Refusal::PastTheEnd => no(5, 0),
-        Refusal::StreamsFull => no(6, 0),
-        Refusal::NoRoom => no(7, 0),
-        Refusal::ShortTray => no(8, 0),
-        Refusal::BadShape => no(9, 0),
-    }
-}
+// Format, check, create, truncate and delete tell nothing.
+impl From<()> for Answer {
+    ghost from_gives = { λ _ a. (a.number ≡ 0) × (a.small ≡ 0) × (a.large ≡ 0) };
 
-pub fn done(a: Done) -> Answer {
-    match a {
-        Done::Done => Answer {
+    fn from(_told: ()) -> Answer {
+        Answer {
             number: 0,
             small: 0,
             large: 0,
-        },
-        Done::Refused(r) => refused(r),
+        }
     }
 }
 
-pub fn counted(a: Counted) -> Answer {
-    match a {
-        Counted::Count(n) => Answer {
+// Room, write and read tell a count, and size a size.
+impl From<usize> for Answer {
+    ghost from_gives = { λ n a. (a.number ≡ 0) × (a.small ≡ 0) × (a.large ≡ n) };
+
+    fn from(large: usize) -> Answer {
+        Answer {
             number: 0,
             small: 0,
-            large: n,
-        },
-        Counted::Refused(r) => refused(r),
+            large,
+        }
     }
 }
 
-pub fn sized(a: Sized) -> Answer {
-    match a {
-        Sized::Size(n) => Answer {
+impl From<Listed> for Answer {
+    ghost from_gives = { λ told a. (a.number ≡ 0) × (a.small ≡ told.length) × (a.large ≡ told.size) };
+
+    fn from(told: Listed) -> Answer {
+        Answer {
             number: 0,
-            small: 0,
-            large: n,
-        },
-        Sized::Refused(r) => refused(r),
+            small: told.length,
+            large: told.size,
+        }
     }
 }
 
-pub fn listed(a: Listed) -> Answer {
-    match a {
-        Listed::Entry { length, size } => Answer {
-            number: 0,
-            small: length,
-            large: size,
-        },
-        Listed::Refused(r) => refused(r),
+impl From<Refusal> for Answer {
+    ghost from_gives = { λ why a. (a.number ≡ number_of why) × (a.small ≡ rule_of why) × (a.large ≡ 0) };
+
+    fn from(why: Refusal) -> Answer {
+        Answer {
+            number: why.number(),
+            small: why.rule(),
+            large: 0,
+        }
+    }
+}
+
+// What was told, or the refusal.
+impl<T: Into<Answer>> From<Result<T, Refusal>> for Answer {
+    ghost from_gives = { λ answer a. MatchResult answer (λ told. T.converts told a) (λ why. (a.number ≡ number_of why) × (a.small ≡ rule_of why) × (a.large ≡ 0)) };
+
+    fn from(answer: Result<T, Refusal>) -> Answer {
+        match answer {
+            Ok(told) => told.into(),
+            Err(why) => why.into(),
+        }
     }
 }

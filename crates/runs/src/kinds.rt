@@ -1,134 +1,157 @@
 // What the kinds of runs are (R5).
 ghost use Rattle.std.specs.Prelude.{◌≤◌};
 
-use crate::dice::below;
-use crate::sums::times;
-use memory::numbers::least;
+use dice::Dice;
+use dice::sums::{block_bytes, times};
 
-// A run's numbers.
+// The bytes before a card's blocks, and the most blocks that it has.
+pub const HEAD: usize = 87;
+
+pub const MOST_BLOCKS: usize = 4096;
+
+// The bytes of a large card's blocks, where it may have as many.
+const LARGE: usize = 1048576;
+
+// In the order of their numbers.
+#[derive(Clone, Copy, PartialEq, Eq)]
+pub enum Kind {
+    Tiny,
+    Common,
+    Edge,
+    Tall,
+    Crowd,
+    Large,
+    Scrambled,
+}
+
+impl Kind {
+    pub const ALL: [Kind; 7] = [
+        Kind::Tiny,
+        Kind::Common,
+        Kind::Edge,
+        Kind::Tall,
+        Kind::Crowd,
+        Kind::Large,
+        Kind::Scrambled,
+    ];
+
+    // How many runs it has.
+    pub fn runs(self) -> usize
+        ensures { result ≤ 42 }
+    {
+        match self {
+            Kind::Tiny | Kind::Common | Kind::Edge => 42,
+            Kind::Tall => 8,
+            Kind::Crowd => 4,
+            Kind::Large => 7,
+            Kind::Scrambled => 9,
+        }
+    }
+
+    // The shift of its run `i`.
+    fn shift(self, i: usize) -> usize
+        ensures { result ≤ 12 }
+    {
+        match self {
+            Kind::Tall => 6,
+            Kind::Crowd | Kind::Scrambled => 6 + i % 3,
+            _ => 6 + i % 7,
+        }
+    }
+
+    // How many blocks of `z` bytes a card has.
+    fn blocks(self, dice: &mut Dice, z: usize) -> usize
+        requires { 1 ≤ z }
+        ensures { result ≤ 4096 }
+    {
+        match self {
+            Kind::Tiny => 1 + dice.below(8),
+            Kind::Common => 12 + dice.below(20),
+            Kind::Edge => 6 + dice.below(30),
+            Kind::Tall => 400 + dice.below(300),
+            Kind::Crowd => 290 + dice.below(20),
+            Kind::Large => dice.below(1) + (LARGE / z).min(MOST_BLOCKS),
+            Kind::Scrambled => 90 + dice.below(60),
+        }
+    }
+
+    // How many names are created at first.
+    pub fn made(self) -> usize
+        ensures { result ≤ 255 }
+    {
+        match self {
+            Kind::Tiny => 0,
+            Kind::Common => 3,
+            Kind::Edge => 4,
+            Kind::Tall | Kind::Large => 2,
+            Kind::Crowd => 255,
+            Kind::Scrambled => 30,
+        }
+    }
+
+    // How many names are drawn from.
+    pub fn pool(self) -> usize
+        ensures { result ≤ 510 }
+    {
+        match self {
+            Kind::Common => 6,
+            Kind::Edge => 5,
+            Kind::Crowd => 510,
+            Kind::Scrambled => 8,
+            _ => 3,
+        }
+    }
+
+    pub fn steps(self) -> usize {
+        match self {
+            Kind::Tiny | Kind::Tall => 40,
+            Kind::Common | Kind::Edge | Kind::Scrambled => 60,
+            Kind::Crowd => 120,
+            Kind::Large => 12,
+        }
+    }
+
+    // How many bytes a write has at most; at the edge that goes by what is free.
+    pub fn longest(self, z: usize) -> usize
+        requires { z ≤ 4096 }
+        ensures { result ≤ 130000 }
+    {
+        match self {
+            Kind::Tiny => 3 * z,
+            Kind::Common => 4 * z,
+            Kind::Tall => 22000,
+            Kind::Crowd => z,
+            Kind::Scrambled => 12 * z,
+            _ => 130000,
+        }
+    }
+}
+
+// A run: its kind, and the card that it is made on.
 #[derive(Clone, Copy)]
-pub struct Taste {
-    pub kind: usize,
+pub struct Run {
+    pub kind: Kind,
     pub shift: usize,
     pub len: usize,
-    pub made: usize,
-    pub pool: usize,
-    pub steps: usize,
-    pub longest: usize,
 }
 
-// The bytes of a block.
-pub fn bytes_of(shift: usize) -> usize
-    ensures { (64 ≤ result) × (result ≤ 4096) }
-{
-    match shift {
-        6 => 64,
-        7 => 128,
-        8 => 256,
-        9 => 512,
-        10 => 1024,
-        11 => 2048,
-        _ => 4096,
+impl Run {
+    // Run `i` of a kind; its blocks are drawn.
+    pub fn drawn(dice: &mut Dice, kind: Kind, i: usize) -> Run {
+        let shift = kind.shift(i);
+        let z = block_bytes(shift);
+        let blocks = kind.blocks(dice, z);
+        Run {
+            kind,
+            shift,
+            len: HEAD + times(blocks, z),
+        }
     }
-}
 
-// How many runs a kind has.
-pub fn runs_of(kind: usize) -> usize {
-    match kind {
-        0 | 1 | 2 => 42,
-        3 => 8,
-        4 => 4,
-        5 => 7,
-        _ => 9,
-    }
-}
-
-fn shift_of(kind: usize, i: usize) -> usize
-    ensures { result ≤ 12 }
-{
-    match kind {
-        3 => 6,
-        4 | 6 => 6 + i % 3,
-        _ => 6 + i % 7,
-    }
-}
-
-fn blocks_of(dice: &mut [usize; 1], kind: usize, z: usize) -> usize
-    requires { 64 ≤ z }
-    ensures { result ≤ 4096 }
-{
-    let n = match kind {
-        0 => 1 + below(dice, 8),
-        1 => 12 + below(dice, 20),
-        2 => 6 + below(dice, 30),
-        3 => 400 + below(dice, 300),
-        4 => 290 + below(dice, 20),
-        5 => below(dice, 1) + least(1048576 / z, 4096),
-        _ => 90 + below(dice, 60),
-    };
-    least(n, 4096)
-}
-
-fn made_of(kind: usize) -> usize
-    ensures { result ≤ 255 }
-{
-    match kind {
-        0 => 0,
-        1 => 3,
-        2 => 4,
-        3 | 5 => 2,
-        4 => 255,
-        _ => 30,
-    }
-}
-
-fn pool_of(kind: usize) -> usize
-    ensures { result ≤ 510 }
-{
-    match kind {
-        1 => 6,
-        2 => 5,
-        4 => 510,
-        6 => 8,
-        _ => 3,
-    }
-}
-
-fn steps_of(kind: usize) -> usize {
-    match kind {
-        0 | 3 => 40,
-        1 | 2 | 6 => 60,
-        4 => 120,
-        _ => 12,
-    }
-}
-
-fn longest_of(kind: usize, z: usize) -> usize
-    requires { z ≤ 4096 }
-    ensures { result ≤ 130000 }
-{
-    match kind {
-        0 => 3 * z,
-        1 => 4 * z,
-        3 => 22000,
-        4 => z,
-        6 => 12 * z,
-        _ => 130000,
-    }
-}
-
-// The numbers of run `i` of a kind; its blocks are drawn.
-pub fn drawn(dice: &mut [usize; 1], kind: usize, i: usize) -> Taste {
-    let shift = shift_of(kind, i);
-    let z = bytes_of(shift);
-    let blocks = blocks_of(dice, kind, z);
-    Taste {
-        kind: kind,
-        shift: shift,
-        len: 87 + times(blocks, z),
-        made: made_of(kind),
-        pool: pool_of(kind),
-        steps: steps_of(kind),
-        longest: longest_of(kind, z),
+    // The bytes of its blocks.
+    pub fn block(self) -> usize
+        ensures { (1 ≤ result) × (result ≤ 4096) }
+    {
+        block_bytes(self.shift)
     }
 }

@@ -1,106 +1,45 @@
 // Rounds of damage (R7).
-ghost use Rattle.std.specs.Prelude.{◌≤◌};
-
-use crate::calls::{Call, plain, shown, shown_on};
-use crate::damage::{Damage, add, span, spoilt};
-use crate::dice::below;
+use crate::calls::{Call, Op};
+use crate::course::Course;
+use crate::damage::Damage;
 use crate::draws::draw_name;
-use crate::kinds::{Taste, bytes_of};
-use memory::numbers::{least, minus};
 use std::io;
 
-// One of the ten calls on a damaged card, of which `lent` bytes are lent.
-fn spoilt_call(
-    rt: &impl Print,
-    dice: &mut [usize; 1],
-    card: &mut [u8],
-    lent: usize,
-    tray: &mut [u8],
-    text: &[u8],
-    which: usize,
-    pool: usize,
-) -> io::Result<()> {
-    let name = draw_name(dice, pool);
-    let place = below(dice, 5);
-    let length = below(dice, 700);
-    let from = below(dice, 1000);
-    let c = Call {
-        which: which,
-        name: name,
-        place: place,
-        length: length,
-        from: from,
-    };
-    shown_on(rt, card, lent, tray, text, c)?;
-    Ok(())
-}
-
-// All ten.
-fn spoilt_calls(
-    rt: &impl Print,
-    dice: &mut [usize; 1],
-    card: &mut [u8],
-    lent: usize,
-    tray: &mut [u8],
-    text: &[u8],
-    pool: usize,
-) -> io::Result<()> {
-    let mut left: usize = 10;
-    while 0 < left {
-        spoilt_call(rt, dice, card, lent, tray, text, minus(10, left), pool)?;
-        left -= 1;
+impl<'a, 'b, R: Print> Course<'a, 'b, R> {
+    // All ten calls on the damaged card, of which `lent` bytes are lent.
+    fn spoilt_calls(&mut self, lent: usize) -> io::Result<()> {
+        for op in Op::ALL {
+            let call = Call {
+                op,
+                name: draw_name(&mut self.dice, self.run.kind.pool()),
+                place: self.dice.below(5),
+                length: self.dice.below(700),
+                from: self.dice.below(1000),
+            };
+            self.stage.show_on(&mut *self.card, lent, call)?;
+        }
+        Ok(())
     }
-    Ok(())
-}
 
-// The ten calls on the card with `n` added to one byte, which is then taken away again.
-fn struck(
-    rt: &impl Print,
-    dice: &mut [usize; 1],
-    card: &mut [u8],
-    tray: &mut [u8],
-    text: &[u8],
-    d: Damage,
-    n: usize,
-    pool: usize,
-) -> io::Result<()>
-    requires { n ≤ 256 }
-{
-    add(card, d.place, n);
-    spoilt_calls(rt, dice, card, d.lent, tray, text, pool)?;
-    add(card, d.place, minus(256, n));
-    Ok(())
-}
-
-// The card is made anew where it is not sound.
-fn renewed(
-    rt: &impl Print,
-    card: &mut [u8],
-    tray: &mut [u8],
-    text: &[u8],
-    shift: usize,
-) -> io::Result<()> {
-    let a = shown(rt, card, tray, text, plain(1, 0, 0))?;
-    if a.number != 0 {
-        shown(rt, card, tray, text, plain(0, 0, shift))?;
+    // The card is made anew where it is not sound.
+    fn renew(&mut self) -> io::Result<()> {
+        let answer = self.show(Call::plain(Op::Check, 0, 0))?;
+        if answer.number != 0 {
+            self.show(Call::plain(Op::Format, 0, self.run.shift))?;
+        }
+        Ok(())
     }
-    Ok(())
-}
 
-// A round of damage.
-pub fn round(
-    rt: &impl Print,
-    dice: &mut [usize; 1],
-    card: &mut [u8],
-    tray: &mut [u8],
-    text: &[u8],
-    t: Taste,
-) -> io::Result<()> {
-    let len = card.len();
-    let number = 1 + below(dice, 9);
-    let back = below(dice, span(number, len));
-    let n = least(1 + below(dice, 255), 255);
-    let d = spoilt(number, len, bytes_of(t.shift), back);
-    struck(rt, dice, card, tray, text, d, n, t.pool)?;
-    renewed(rt, card, tray, text, t.shift)
+    // A round of damage: the ten calls on the card with a number added to one byte, which is then taken away again.
+    pub fn round(&mut self) -> io::Result<()> {
+        let len = self.card.len();
+        let damage = Damage::ALL[1 + self.dice.below(9)];
+        let back = self.dice.below(damage.span(len));
+        let n = (1 + self.dice.below(255)) as u8;
+        let spoilt = damage.at(len, self.run.block(), back);
+        spoilt.add(&mut *self.card, n);
+        self.spoilt_calls(spoilt.lent)?;
+        spoilt.mend(&mut *self.card, n);
+        self.renew()
+    }
 }

@@ -2,15 +2,17 @@
 // for the program `cases` to damage.
 #![tactic(auto)]
 
-pub mod blocks;
-pub mod cells;
-pub mod dice;
+pub mod card;
+pub mod draft;
+pub mod draws;
+pub mod entries;
+pub mod fault;
+pub mod free;
+pub mod image;
 pub mod kinds;
-pub mod lay;
-pub mod places;
+mod lay;
+pub mod owners;
+pub mod parts;
 pub mod plan;
-pub mod put;
-pub mod rows;
-pub mod slots;
-pub mod sums;
+pub mod sizes;
 pub mod wrong;

@@ -1,129 +1,121 @@
-// Wrong values, the nearest ones and those that a short look takes for right (G9). Card `i` takes number `i` mod how many.
-ghost use Rattle.std.specs.Prelude.{◌<◌};
+// Wrong values, the nearest ones and those that a short look takes for right (G9); `x` is the right one.
+use crate::draws::{Draws, Value};
 
-use crate::cells::{BYTES, CARD, COUNT, DESCRIPTORS, get};
-use crate::dice::below;
-use crate::sums::rest;
-use memory::numbers::minus;
+pub const FF4: u64 = 0xffff_ffff;
 
-// The number of the value whose turn it is, of `n`.
-pub fn turn(plan: &[u8], n: usize) -> usize
-    ensures { result < 4294967296 }
-{
-    rest(get(plan, CARD), n)
-}
+pub const FF8: u64 = 0xffff_ffff_ffff_ffff;
 
-// Flags.
-pub fn wrong_flags(plan: &mut [u8]) -> usize {
-    match turn(&*plan, 4) {
-        0 => 1,
-        1 => 128,
-        2 => 255,
-        _ => 1 + below(plan, 255),
+pub const TWO_16: u64 = 1 << 16;
+
+pub const TWO_24: u64 = 1 << 24;
+
+pub const TWO_31: u64 = 1 << 31;
+
+pub const TWO_32: u64 = 1 << 32;
+
+pub const TWO_63: u64 = 1 << 63;
+
+impl Draws {
+    // Flags.
+    pub fn wrong_flags(&mut self) -> Option<u64> {
+        self.value_of(&[
+            Value::Is(1),
+            Value::Is(128),
+            Value::Is(255),
+            Value::Drawn(1, 255),
+        ])
+    }
+
+    // Reserved, with blocks of `z` bytes.
+    pub fn wrong_reserved(&self, x: u32, z: u16) -> Option<u64> {
+        let x = u64::from(x);
+        let z = u64::from(z);
+        self.turn_of(&[
+            x + 1,
+            x.saturating_sub(1),
+            x + z,
+            x.saturating_sub(z),
+            x + TWO_32,
+            x + TWO_63,
+        ])
+    }
+
+    // What is not 0, with blocks of `z` bytes.
+    pub fn not_zero(&self, z: u16) -> Option<u64> {
+        self.turn_of(&[1, u64::from(z), TWO_32, TWO_63, FF8])
+    }
+
+    // A block in 8 bytes, on a card of `count` blocks.
+    pub fn wrong_block(&self, x: u16, count: u16) -> Option<u64> {
+        let values = wrong_blocks(x, count);
+        let (_, others) = values.split_last()?;
+        self.turn_of(others)
+    }
+
+    // The same, or what ends a chain.
+    pub fn wrong_block_or_none(&self, x: u16, count: u16) -> Option<u64> {
+        self.turn_of(&wrong_blocks(x, count))
+    }
+
+    // A block in a slot.
+    pub fn wrong_slot(&self, x: u16, count: u16) -> Option<u64> {
+        let x = u64::from(x);
+        let count = u64::from(count);
+        self.turn_of(&[count, count + 1, x + TWO_31, FF4, x + TWO_16])
+    }
+
+    // A block in a link.
+    pub fn wrong_link(&mut self, x: u16, count: u16) -> Option<u64> {
+        self.beyond(u32::from(x), count, FF4 - 1)
+    }
+
+    // An index in an entry, where the table has `n` descriptors.
+    pub fn wrong_index(&mut self, x: u32, n: u16) -> Option<u32> {
+        let v = self.beyond(x, n, FF4)?;
+        u32::try_from(v).ok()
+    }
+
+    // A number beyond the `n` that there are.
+    fn beyond(&mut self, x: u32, n: u16, high: u64) -> Option<u64> {
+        let x = u64::from(x);
+        self.value_of(&[
+            Value::Is(u64::from(n)),
+            Value::Drawn(u32::from(n) + 1, 1000),
+            Value::Is(x + TWO_31),
+            Value::Is(high),
+            Value::Is(x + TWO_16),
+        ])
+    }
+
+    // An offset in the table, which ends at `end`.
+    pub fn wrong_offset(&self, x: u32, end: u32) -> Option<u64> {
+        let x = u64::from(x);
+        self.turn_of(&[
+            x + 1,
+            x.saturating_sub(1),
+            0,
+            u64::from(end),
+            x + TWO_32,
+            FF4,
+            x + TWO_63,
+            FF8 - 1,
+        ])
     }
 }
 
-// Reserved, where `x` is right.
-pub fn wrong_reserved(plan: &[u8], x: usize) -> usize
-    requires { x < 1099511627776 }
-{
-    match turn(plan, 6) {
-        0 => x + 1,
-        1 => minus(x, 1),
-        2 => x + get(plan, BYTES),
-        3 => minus(x, get(plan, BYTES)),
-        4 => x + 4294967296,
-        _ => x + 9223372036854775808,
-    }
-}
-
-// What is not 0.
-pub fn not_zero(plan: &[u8]) -> usize {
-    match turn(plan, 5) {
-        0 => 1,
-        1 => get(plan, BYTES),
-        2 => 4294967296,
-        3 => 9223372036854775808,
-        _ => 0xffff_ffff_ffff_ffff,
-    }
-}
-
-// A block in 8 bytes, where `x` is right: the value of a given number.
-pub fn wrong_block(plan: &[u8], which: usize, x: usize) -> usize
-    requires { x < 1099511627776 }
-{
-    match which {
-        0 => get(plan, COUNT),
-        1 => get(plan, COUNT) + 1,
-        2 => x + 4294967296,
-        3 => x + 9223372036854775808,
-        4 => 0xffff_ffff,
-        5 => 0xffff_ffff_ffff_fffe,
-        6 => x + 65536,
-        7 => x + 16777216,
-        _ => 0xffff_ffff_ffff_ffff,
-    }
-}
-
-// A block in a slot, where `x` is right.
-pub fn wrong_slot(plan: &[u8], x: usize) -> usize
-    requires { x < 1099511627776 }
-{
-    match turn(plan, 5) {
-        0 => get(plan, COUNT),
-        1 => get(plan, COUNT) + 1,
-        2 => x + 2147483648,
-        3 => 0xffff_ffff,
-        _ => x + 65536,
-    }
-}
-
-// A number beyond the `n` that there are, where `x` is right, but for one in the middle: as it is told.
-fn beyond(plan: &mut [u8], n: usize, x: usize, high: usize) -> usize
-    requires { (n < 1099511627776) × (x < 1099511627776) }
-{
-    match turn(&*plan, 5) {
-        0 => n,
-        1 => n + 1 + below(plan, 1000),
-        2 => x + 2147483648,
-        3 => high,
-        _ => x + 65536,
-    }
-}
-
-// A link, where `x` is right.
-pub fn wrong_link(plan: &mut [u8], x: usize) -> usize
-    requires { x < 1099511627776 }
-{
-    let n = get(&*plan, COUNT);
-    beyond(plan, n, x, 0xffff_fffe)
-}
-
-// An index beyond the table, where `x` is right.
-pub fn wrong_index(plan: &mut [u8], x: usize) -> usize
-    requires { x < 1099511627776 }
-{
-    let n = get(&*plan, DESCRIPTORS);
-    beyond(plan, n, x, 0xffff_ffff)
-}
-
-// The offset just beyond the table.
-pub fn offset_beyond(plan: &[u8]) -> usize {
-    8 + 25 * get(plan, DESCRIPTORS)
-}
-
-// An offset in the table, where `x` is right.
-pub fn wrong_offset(plan: &[u8], x: usize) -> usize
-    requires { x < 1099511627776 }
-{
-    match turn(plan, 8) {
-        0 => x + 1,
-        1 => minus(x, 1),
-        2 => 0,
-        3 => offset_beyond(plan),
-        4 => x + 4294967296,
-        5 => 0xffff_ffff,
-        6 => x + 9223372036854775808,
-        _ => 0xffff_ffff_ffff_fffe,
-    }
+// Blocks that are wrong in 8 bytes, and what ends a chain.
+fn wrong_blocks(x: u16, count: u16) -> [u64; 9] {
+    let x = u64::from(x);
+    let count = u64::from(count);
+    [
+        count,
+        count + 1,
+        x + TWO_32,
+        x + TWO_63,
+        FF4,
+        FF8 - 1,
+        x + TWO_16,
+        x + TWO_24,
+        FF8,
+    ]
 }

@@ -8,9 +8,7 @@ use native.Mathlib.Omega.{arith}
 use lib.ListN.{length, get_or, take, drop, replicate, length-append, length-take, length-drop, length-replicate, get_or-replicate, get_or-eq_default}
 use lib.Seq.{get_or-take, get_or-drop, take_all}
 use Rattle.layout.specs.Bytes.{num, bytes, over, put}
-use Rattle.layout.specs.Pyramid.{height}
-use Rattle.layout.specs.Blocks.{fan}
-use Rattle.layout.specs.Streams.{desc_in, data_of, fields, contents, laid, table, table_bytes, offset, slots, desc_of, stream, in_table, in_stream, desc_set}
+use Rattle.layout.specs.Streams.{desc_in, data_of, tall, fields, contents, laid, table, table_bytes, offset, slots, desc_of, stream, in_table, in_stream, desc_set}
 use Rattle.laws.proofs.ByteLaws.{length-bytes, length_over, over-append, over_in, over_out, take-over}
 use Rattle.laws.proofs.Descs.{length_fields}
 use Rattle.laws.proofs.Laying.{length-contents}
@@ -72,38 +70,38 @@ page_desc l page x r e f =
 
 -- ---- in the table
 
-pub stream-read : (c page : List ℕ) (s : Shape) (k : ℕ) (t r : Desc) → t ≡ table c s → page ≡ over (replicate 25 0) 0 (take 25 (drop (offset k) (contents c s t.top (data_of s t) t.size)))
+-- written over from end to end
+pub over-whole : (l vs : List ℕ) → length vs ≡ length l → over l 0 vs ≡ vs
+over-whole l vs e =
+    let n = length_over l 0 vs in
+    sym (take_all (length l) (over l 0 vs) (omega arith)) ∙ take-over l vs (length l) (sym e) (omega arith)
+
+pub stream-read : (c page : List ℕ) (s : Shape) (k o : ℕ) (t r : Desc) → t ≡ table c s → o ≡ offset k → page ≡ over (replicate 25 0) 0 (take 25 (drop o (contents c s t.top (data_of s t) t.size)))
     → r ≡ desc_in page 0 → r ≡ stream c s k
 unfolding stream desc_of table_bytes
-stream-read c page s k t r e f g = page_desc (table_bytes c s) page (offset k) r (rw e at f) g
+stream-read c page s k o t r e u f g = page_desc (table_bytes c s) page (offset k) r (rw (e, u) at f) g
 
-pub stream-set : (c c₁ page page₁ : List ℕ) (s : Shape) (k size top d h : ℕ) (t : Desc) → t ≡ table c s → h ≡ height (fan s) (data_of s t) → page₁ ≡ over page 0 (fields s size top d)
-    → length page ≡ 24 → c₁ ≡ laid c s t.top h (offset k) (take 24 (drop 0 page₁)) → c₁ ≡ desc_set c s k size top d
-unfolding desc_set in_table
-stream-set c c₁ page page₁ s k size top d h t a b e n g =
-    let x : take 24 (over page 0 (fields s size top d)) ≡ fields s size top d = take-over page (fields s size top d) 24 (sym (length_fields s size top d)) (omega arith) in
-    g ∙ rw (e, x, b, a)
+pub stream-set : (c c₁ page page₁ : List ℕ) (s : Shape) (k size top d o : ℕ) → o ≡ offset k → page₁ ≡ over page 0 (fields s size top d) → length page ≡ 24
+    → c₁ ≡ in_table c s o page₁ → c₁ ≡ desc_set c s k size top d
+unfolding desc_set
+stream-set c c₁ page page₁ s k size top d o u e n g =
+    let x : over page 0 (fields s size top d) ≡ fields s size top d = over-whole page (fields s size top d) (length_fields s size top d ∙ sym n) in
+    g ∙ rw (e, x, u)
 
 pub table-num : (c page : List ℕ) (s : Shape) (at r : ℕ) (t : Desc) → t ≡ table c s → page ≡ over (replicate 8 0) 0 (take 8 (drop at (contents c s t.top (data_of s t) t.size))) → r ≡ num 8 page 0
     → r ≡ num 8 (table_bytes c s) at
 unfolding table_bytes
 table-num c page s at r t e f g = g ∙ page-start 8 (table_bytes c s) page at 8 (omega arith) (rw e at f)
 
-pub table-laid : (c c₁ : List ℕ) (s : Shape) (p h : ℕ) (vs : List ℕ) (t : Desc) → t ≡ table c s → h ≡ height (fan s) (data_of s t) → c₁ ≡ laid c s t.top h p (take (length vs) (drop 0 vs)) → c₁ ≡ in_table c s p vs
+pub table-laid : (c c₁ : List ℕ) (s : Shape) (p : ℕ) (vs : List ℕ) (t : Desc) → t ≡ table c s → c₁ ≡ laid c s t.top (tall s (data_of s t)) p (take (length vs) (drop 0 vs)) → c₁ ≡ in_table c s p vs
 unfolding in_table
-table-laid c c₁ s p h vs t a b e =
+table-laid c c₁ s p vs t a e =
     let x : take (length vs) vs ≡ vs = take_all (length vs) vs (omega arith) in
-    e ∙ rw (x, b, a)
+    e ∙ rw (x, a)
 
-pub stream-laid : (c c₁ : List ℕ) (s : Shape) (k p h : ℕ) (vs : List ℕ) (t : Desc) → t ≡ stream c s k → h ≡ height (fan s) (data_of s t) → c₁ ≡ laid c s t.top h p vs → c₁ ≡ in_stream c s k p vs
+pub stream-laid : (c c₁ : List ℕ) (s : Shape) (k p : ℕ) (vs : List ℕ) (t : Desc) → t ≡ stream c s k → c₁ ≡ laid c s t.top (tall s (data_of s t)) p vs → c₁ ≡ in_stream c s k p vs
 unfolding in_stream
-stream-laid c c₁ s k p h vs t a b e = e ∙ rw (b, a)
-
--- written over from end to end
-pub over-whole : (l vs : List ℕ) → length vs ≡ length l → over l 0 vs ≡ vs
-over-whole l vs e =
-    let n = length_over l 0 vs in
-    sym (take_all (length l) (over l 0 vs) (omega arith)) ∙ take-over l vs (length l) (sym e) (omega arith)
+stream-laid c c₁ s k p vs t a e = e ∙ rw a
 
 pub number-laid : (c c₁ page : List ℕ) (s : Shape) (p v : ℕ) → page ≡ put 8 (replicate 8 0) 0 v → c₁ ≡ in_table c s p page → c₁ ≡ in_table c s p (bytes 8 v)
 unfolding put

@@ -1,15 +1,13 @@
 // Descriptors: the table's own in the header, all others in the table's stream.
 ghost use Rattle.std.specs.Prelude.{◌≡◌, ◌+◌, ◌*◌, ◌^◌, ◌<◌};
 ghost use Rattle.layout.specs.Bytes.{over};
-ghost use Rattle.layout.specs.Streams.{desc_in, fields, table, table_bytes, table_set, slots, stream, desc_set};
+ghost use Rattle.layout.specs.Streams.{desc_in, fields, table, table_bytes, table_set, offset, slots, stream, desc_set};
 ghost use Rattle.layout.specs.Ranges.{Small};
 
+use crate::inside::lay_in_table;
 use laying::gather::gather_stream;
-use laying::lay::lay;
 use layout::{Desc, Shape};
 use memory::bytes::{byte, number, put_number};
-use memory::numbers::{minus, wide};
-use pyramids::pyramid::height;
 
 // The descriptor in the 25 bytes at `at`.
 pub fn descriptor(card: &[u8], at: usize) -> Desc
@@ -20,7 +18,7 @@ pub fn descriptor(card: &[u8], at: usize) -> Desc
         size: number(card, at, 8),
         top: number(card, at + 8, 8),
         reserved: number(card, at + 16, 8),
-        flags: wide(byte(card, at + 24)),
+        flags: usize::from(byte(card, at + 24)),
     }
 }
 
@@ -47,7 +45,7 @@ pub fn descriptors(card: &[u8], s: Shape) -> usize
     requires { Small card.now s }
     ensures { result ≡ slots (table_bytes card.now s) }
 {
-    minus(table(card, s).size, 8) / 25
+    table(card, s).size.saturating_sub(8) / 25
 }
 
 // The table's own descriptor, set.
@@ -55,8 +53,15 @@ pub fn set_table(card: &mut [u8], s: Shape, size: usize, top: usize, d: usize)
     requires { Small card.old s × (d * s.size < 2 ^ 64) }
     ensures { card.new ≡ table_set card.old s size top d }
 {
-    let at = s.table;
-    put_fields(card, s, at, size, top, d);
+    put_fields(card, s, s.table, size, top, d);
+}
+
+// Where descriptor `k` stands in the table.
+fn offset(k: usize) -> usize
+    requires { k < 2 ^ 56 }
+    ensures { result ≡ offset k }
+{
+    8 + 25 * k
 }
 
 // Stream `k`'s descriptor; zeros past the table's end.
@@ -65,7 +70,7 @@ pub fn stream(card: &[u8], s: Shape, k: usize) -> Desc
     ensures { result ≡ stream card.now s k }
 {
     let mut page = [0; 25];
-    gather_stream(card, s, table(card, s), 8 + 25 * k, &mut page, 0, 25);
+    gather_stream(card, s, table(card, s), offset(k), &mut page, 0, 25);
     descriptor(&page, 0)
 }
 
@@ -74,9 +79,7 @@ pub fn set_stream(card: &mut [u8], s: Shape, k: usize, size: usize, top: usize, 
     requires { Small card.old s × (k < 2 ^ 56) × (d * s.size < 2 ^ 64) }
     ensures { card.new ≡ desc_set card.old s k size top d }
 {
-    let t = table(card, s);
-    let h = height(s.size / 4, t.reserved / s.size);
     let mut page = [0; 24];
     put_fields(&mut page, s, 0, size, top, d);
-    lay(card, s, t.top, h, 8 + 25 * k, &page, 0, 24);
+    lay_in_table(card, s, offset(k), &page);
 }

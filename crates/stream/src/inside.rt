@@ -6,10 +6,9 @@ ghost use Rattle.layout.specs.Ranges.{Small};
 
 use crate::descs::{stream, table};
 use laying::gather::gather_stream;
-use laying::lay::lay;
+use laying::lay::lay_stream;
 use layout::Shape;
 use memory::bytes::{number, put_number};
-use pyramids::pyramid::height;
 
 // The number in the 8 bytes at `at` of the table.
 pub fn table_number(card: &[u8], s: Shape, at: usize) -> usize
@@ -26,9 +25,7 @@ pub fn lay_in_table(card: &mut [u8], s: Shape, p: usize, given: &[u8])
     requires { Small card.old s × (p < 2 ^ 62) × (length given.now < 2 ^ 62) }
     ensures { card.new ≡ in_table card.old s p given.now }
 {
-    let t = table(card, s);
-    let h = height(s.size / 4, t.reserved / s.size);
-    lay(card, s, t.top, h, p, given, 0, given.len());
+    lay_stream(card, s, table(card, s), p, given, 0, given.len());
 }
 
 // The first `n` bytes of `given` go into stream `k` from place `p` on.
@@ -36,9 +33,7 @@ pub fn lay_in_stream(card: &mut [u8], s: Shape, k: usize, p: usize, given: &[u8]
     requires { Small card.old s × (k < 2 ^ 56) × (p < 2 ^ 62) × (n < 2 ^ 62) × (n ≤ length given.now) }
     ensures { card.new ≡ in_stream card.old s k p (take n given.now) }
 {
-    let t = stream(card, s, k);
-    let h = height(s.size / 4, t.reserved / s.size);
-    lay(card, s, t.top, h, p, given, 0, n);
+    lay_stream(card, s, stream(card, s, k), p, given, 0, n);
 }
 
 // The number `v` goes into the table's 8 bytes at `p`.

@@ -1,5 +1,5 @@
 -- `contents::size` keeps its promise.
-use mathlib.Core.Path.{refl}
+use Rattle.std.proofs.lemmas.Result.{err_from_is_err_and}
 use Rattle.layout.specs.Promises.{Sizes}
 use Rattle.layout.specs.Calls.{size}
 use Rattle.front.proofs.Passing.{asked}
@@ -7,17 +7,17 @@ use Rattle.front.proofs.Fronted.{refused-first, refused_unknown, known_of}
 use Rattle.contents.proofs.Named.{size-done}
 use Rattle.contents.proofs.size.Goals as goal
 
+pub returns-in_err-shape : goal.returns-in_err-shape
+unfolding Sizes size
+returns-in_err-shape c = let p = err_from_is_err_and c.from_residual.result c.from_residual.ensures.1 in rw (p.1, p.2) (refused-first _ _ _ _ _ c.in_err-shape.ensures)
+
+pub returns-in_default : goal.returns-in_default
+unfolding Sizes size
+returns-in_default c = refused_unknown _ _ _ _ _ c.in_ok-shape.ensures c.in_default.is
+
 pub size-requires : goal.size-requires
-size-requires c = asked (known_of _ _ c.in-Known.ensures refl)
+size-requires c = asked (known_of _ _ c.in_ok-shape.ensures c.in-Some.is)
 
-pub returns-in-Refused : goal.returns-in-Refused
-unfolding Sizes size
-returns-in-Refused c = refused-first _ _ c.in-Refused.ensures _ _ _ refl
-
-pub returns-in-Unknown : goal.returns-in-Unknown
-unfolding Sizes size
-returns-in-Unknown c = refused_unknown _ _ c.in-Unknown.ensures _ _ _ refl
-
-pub returns-in-Known : goal.returns-in-Known
+pub returns : goal.returns
 unfolding Sizes
-returns-in-Known c = size-done (known_of _ _ c.in-Known.ensures refl) _ c.size.ensures
+returns c = size-done (known_of _ _ c.in_ok-shape.ensures c.in-Some.is) _ c.size.ensures

@@ -1,17 +1,14 @@
 -- `front::examine` keeps its promise.
-use native.Mathlib.Omega.{arith}
-use Rattle.front.proofs.Passing.{rule-low, shift_fits}
+use Rattle.std.proofs.lemmas.Result.{err_from_is_err_and}
+use Rattle.front.proofs.Passing.{shift_fits}
 use Rattle.front.proofs.Fronted.{examined_damaged, examined_sound}
 use Rattle.front.proofs.examine.Goals as goal
 
-pub overflow_cast-result : goal.overflow_cast-result
-overflow_cast-result c = omega (arith, rule-low _ _ c.check-v.ensures.0)
-
-pub returns-then-rule-ne0 : goal.returns-then-rule-ne0
-returns-then-rule-ne0 c = examined_damaged _ _ c.check-v.ensures.0 c.if-rule-ne0.true
+pub returns-in_err-free : goal.returns-in_err-free
+returns-in_err-free c = let p = err_from_is_err_and c.from_residual.result c.from_residual.ensures.1 in rw (p.1, p.2) (examined_damaged _ _ c.in_err-free.ensures.0)
 
 pub shape-requires : goal.shape-requires
-shape-requires c = shift_fits _ _ c.check-v.ensures.0 c.if-rule-ne0.false
+shape-requires c = shift_fits _ c.in_ok-free.ensures.0
 
 pub returns : goal.returns
-returns c = examined_sound _ _ c.check-v.ensures.0 c.if-rule-ne0.false _ c.shape.ensures _ c.check-v.ensures.1
+returns c = examined_sound _ c.in_ok-free.ensures.0 _ c.shape.ensures _ c.in_ok-free.ensures.1

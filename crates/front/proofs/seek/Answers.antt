@@ -1,22 +1,19 @@
 -- `front::seek` keeps its promise.
-use borrow.Author.Tests.{not-true, not-false}
-use mathlib.Core.Path.{refl}
+use Rattle.std.proofs.lemmas.Result.{err_from_is_err_and}
 use Rattle.front.proofs.Passing.{small_of, root-low, name_fits}
-use Rattle.front.proofs.Fronted.{sound_of, sought_damaged, sought_bad, sought_unknown, sought_known}
+use Rattle.front.proofs.Fronted.{sound_of, sought_damaged, sought_bad, sought-done}
 use borrow.Author.Rules.{rules}
 use Rattle.front.proofs.seek.Goals as goal
 
+pub returns-in_err-shape : goal.returns-in_err-shape
+returns-in_err-shape c = let p = err_from_is_err_and c.from_residual.result c.from_residual.ensures.1 in rw (p.1, p.2) (sought_damaged _ _ c.in_err-shape.ensures)
+
 pub returns-then-not-good_name : goal.returns-then-not-good_name
-returns-then-not-good_name c = sought_bad _ _ _ (sound_of _ c.in-Sound.ensures refl) _ c.good_name.ensures c.if-not-good_name.true
+returns-then-not-good_name c = sought_bad _ _ _ (sound_of _ c.in_ok-shape.ensures) _ c.good_name.ensures c.if-not-good_name.true
 
-pub look_up-f-requires : goal.look_up-f-requires
-look_up-f-requires c = (small_of (sound_of _ c.in-Sound.ensures refl), search rules, name_fits _ _ c.good_name.ensures c.if-not-good_name.false, root-low (sound_of _ c.in-Sound.ensures refl))
+pub look_up-found-requires : goal.look_up-found-requires
+look_up-found-requires c = let p = sound_of _ c.in_ok-shape.ensures in
+    (small_of p, search rules, name_fits _ _ c.good_name.ensures c.if-not-good_name.false, root-low p)
 
-pub returns-then-not-f : goal.returns-then-not-f
-returns-then-not-f c = sought_unknown _ _ _ (sound_of _ c.in-Sound.ensures refl) _ c.good_name.ensures c.if-not-good_name.false _ c.look_up-f.ensures (not-true _ c.if-not-f.true)
-
-pub returns-in-Damaged : goal.returns-in-Damaged
-returns-in-Damaged c = sought_damaged _ _ _ _ c.in-Damaged.ensures refl
-
-pub returns-else-not-f : goal.returns-else-not-f
-returns-else-not-f c = sought_known _ _ _ (sound_of _ c.in-Sound.ensures refl) _ c.good_name.ensures c.if-not-good_name.false _ c.look_up-f.ensures (not-false _ c.if-not-f.false)
+pub returns : goal.returns
+returns c = sought-done _ _ _ (sound_of _ c.in_ok-shape.ensures) _ c.good_name.ensures c.if-not-good_name.false _ c.look_up-found.ensures

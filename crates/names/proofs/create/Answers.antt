@@ -1,43 +1,44 @@
 -- `names::create` keeps its promise.
+use mathlib.Core.Path.{refl, sym, ◌∙◌}
 use borrow.Author.Rules.{rules}
-use mathlib.Core.Path.{refl}
+use Rattle.std.proofs.lemmas.Result.{err_from_is_err_and}
 use Rattle.layout.specs.Promises.{Creates}
 use Rattle.layout.specs.Calls.{create}
 use Rattle.front.proofs.Passing.{small_of, root_lower, fits_of, name_fits}
-use Rattle.front.proofs.Fronted.{refused-first, refused-known, unknown_of}
+use Rattle.front.proofs.Fronted.{refused-first, refused-known, fresh_of}
 use Rattle.names.proofs.Creating.{create-full, create_cramped, create-done}
 use Rattle.names.proofs.create.Goals as goal
 
+pub returns-in_err-shape : goal.returns-in_err-shape
+unfolding Creates create
+returns-in_err-shape c = let p = err_from_is_err_and c.from_residual.result c.from_residual.ensures.1 in rw (p.1, p.2) (refused-first _ _ _ _ _ c.in_err-shape.ensures)
+
+pub returns-then-is_some : goal.returns-then-is_some
+unfolding Creates create
+returns-then-is_some c = refused-known _ _ _ _ _ c.in_ok-shape.ensures (sym c.is_some.ensures ∙ c.if-is_some.true)
+
 pub full-requires : goal.full-requires
-full-requires c = small_of (unknown_of _ _ c.in-Unknown.ensures refl).passed
+full-requires c = small_of (fresh_of _ _ c.in_ok-shape.ensures (sym c.is_some.ensures ∙ c.if-is_some.false)).passed
 
 pub returns-then-full : goal.returns-then-full
 unfolding Creates
-returns-then-full c = create-full (unknown_of _ _ c.in-Unknown.ensures refl) _ c.full.ensures c.if-full.true
+returns-then-full c = create-full (fresh_of _ _ c.in_ok-shape.ensures (sym c.is_some.ensures ∙ c.if-is_some.false)) _ c.full.ensures c.if-full.true
 
 pub create_wants-requires : goal.create_wants-requires
-create_wants-requires c = let n = unknown_of _ _ c.in-Unknown.ensures refl in
+create_wants-requires c = let n = fresh_of _ _ c.in_ok-shape.ensures (sym c.is_some.ensures ∙ c.if-is_some.false) in
     (small_of n.passed, search rules, name_fits _ _ refl n.good, (fits_of n.passed).size_of_table, root_lower n.passed)
 
-pub has_room-requires : goal.has_room-requires
-has_room-requires c = small_of (unknown_of _ _ c.in-Unknown.ensures refl).passed
+pub enough-requires : goal.enough-requires
+enough-requires c = small_of (fresh_of _ _ c.in_ok-shape.ensures (sym c.is_some.ensures ∙ c.if-is_some.false)).passed
 
-pub returns-then-not-has_room : goal.returns-then-not-has_room
+pub returns-then-not-enough : goal.returns-then-not-enough
 unfolding Creates
-returns-then-not-has_room c = create_cramped (unknown_of _ _ c.in-Unknown.ensures refl) _ c.full.ensures c.if-full.false _ c.create_wants.ensures _ c.has_room.ensures c.if-not-has_room.true
+returns-then-not-enough c = create_cramped (fresh_of _ _ c.in_ok-shape.ensures (sym c.is_some.ensures ∙ c.if-is_some.false)) _ c.full.ensures c.if-full.false _ c.create_wants.ensures _ c.enough.ensures c.if-not-enough.true
 
 pub create-requires : goal.create-requires
-create-requires c = let n = unknown_of _ _ c.in-Unknown.ensures refl in
+create-requires c = let n = fresh_of _ _ c.in_ok-shape.ensures (sym c.is_some.ensures ∙ c.if-is_some.false) in
     (small_of n.passed, fits_of n.passed, search rules, name_fits _ _ refl n.good, root_lower n.passed)
 
-pub returns-in-Refused : goal.returns-in-Refused
-unfolding Creates create
-returns-in-Refused c = refused-first _ _ c.in-Refused.ensures _ _ _ refl
-
-pub returns-in-Known : goal.returns-in-Known
-unfolding Creates create
-returns-in-Known c = refused-known _ _ c.in-Known.ensures _ _ _ refl
-
-pub returns-else-not-has_room : goal.returns-else-not-has_room
+pub returns : goal.returns
 unfolding Creates
-returns-else-not-has_room c = create-done (unknown_of _ _ c.in-Unknown.ensures refl) _ c.full.ensures c.if-full.false _ c.create_wants.ensures _ c.has_room.ensures _ c.if-not-has_room.false c.create.ensures
+returns c = create-done (fresh_of _ _ c.in_ok-shape.ensures (sym c.is_some.ensures ∙ c.if-is_some.false)) _ c.full.ensures c.if-full.false _ c.create_wants.ensures _ c.enough.ensures _ c.if-not-enough.false c.create.ensures

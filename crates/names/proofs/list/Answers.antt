@@ -1,46 +1,52 @@
 -- `names::list` keeps its promise.
-use mathlib.Core.Path.{refl}
-use borrow.Author.Tests.{not-true, not-false}
+use mathlib.Core.Path.{sym, ◌∙◌}
+use native.Mathlib.Omega.{arith}
 use borrow.Author.Rules.{rules}
-use mathlib.Core.List.{[]}
+use Rattle.std.proofs.lemmas.Result.{err_from_is_err_and}
 use Rattle.layout.specs.Promises.{Lists}
 use Rattle.layout.specs.Calls.{list}
+use Rattle.acts.proofs.Naming.{row_is}
 use Rattle.front.proofs.Passing.{small_of, root-low, root-size}
-use Rattle.front.proofs.Fronted.{refused-damaged, sound_of}
-use Rattle.names.proofs.Listing.{row-root, list_past, list_none, list-short, row_low, list_done}
+use Rattle.front.proofs.Fronted.{refused-damaged, sound_of, lost}
+use Rattle.names.proofs.Listing.{list-missing, list_none, list-short, row_low, list_done}
 use Rattle.names.proofs.list.Goals as goal
 
-pub stream-requires : goal.stream-requires
-stream-requires c = (small_of (sound_of _ c.in-Sound.ensures refl), search rules)
+pub returns-in_err-shape : goal.returns-in_err-shape
+unfolding Lists list
+returns-in_err-shape c = let p = err_from_is_err_and c.from_residual.result c.from_residual.ensures.1 in rw (p.1, p.2) (refused-damaged _ c.in_err-shape.ensures _ _ _)
+
+pub stream-root-requires : goal.stream-root-requires
+stream-root-requires c = (small_of (sound_of _ c.in_ok-shape.ensures), search rules)
 
 pub nth_entry-requires : goal.nth_entry-requires
-nth_entry-requires c = let p = sound_of _ c.in-Sound.ensures refl in
-    (small_of p, root-size p _ c.stream.ensures)
+nth_entry-requires c = let p = sound_of _ c.in_ok-shape.ensures in (small_of p, root-size p _ c.stream-root.ensures)
 
-pub returns-then-nth_entry : goal.returns-then-nth_entry
+pub returns-in_err-ok_or : goal.returns-in_err-ok_or
 unfolding Lists
-returns-then-nth_entry c = list-short (sound_of _ c.in-Sound.ensures refl) _ _ (row-root _ _ _ _ _ c.stream.ensures c.nth_entry.ensures.0) _ c.if-nth_entry.true c.if-tray-lt64.true
+returns-in_err-ok_or c =
+    let z = lost _ _ _ c.in_err-ok_or.ensures.value in
+    let p = err_from_is_err_and c.from_residual-in_err-ok_or.result c.from_residual-in_err-ok_or.ensures.1 in
+    rw (p.1, p.2, z.1) (list-missing (sound_of _ c.in_ok-shape.ensures) _ _ _ c.stream-root.ensures (sym z.0 ∙ c.nth_entry.ensures.numbered))
 
-pub returns-then-tray-lt64 : goal.returns-then-tray-lt64
+pub returns-then-tray-longest_name : goal.returns-then-tray-longest_name
 unfolding Lists
-returns-then-tray-lt64 c = list_past (sound_of _ c.in-Sound.ensures refl) _ _ (row-root _ _ _ _ _ c.stream.ensures c.nth_entry.ensures.0) _ c.if-nth_entry.false
+returns-then-tray-longest_name c =
+    let w = row_is _ _ _ _ _ _ c.stream-root.ensures (sym c.in_ok-ok_or.ensures.ok_part ∙ c.nth_entry.ensures.numbered) in
+    list-short (sound_of _ c.in_ok-shape.ensures) _ _ _ w (omega (arith, c.if-tray-longest_name.true, c.longest_name.ensures))
 
-pub list-row-requires : goal.list-row-requires
-list-row-requires c = let p = sound_of _ c.in-Sound.ensures refl in
-    (small_of p, search rules, root-low p)
+pub list-requires : goal.list-requires
+list-requires c = let p = sound_of _ c.in_ok-shape.ensures in (small_of p, search rules, root-low p)
 
-pub returns-then-not-row : goal.returns-then-not-row
+pub returns-in_err-row : goal.returns-in_err-row
 unfolding Lists
-returns-then-not-row c = list_none (sound_of _ c.in-Sound.ensures refl) _ _ c.list-row.ensures.0 _ _ (not-true _ c.if-not-row.true) c.list-row.ensures.1
+returns-in_err-row c =
+    let z = lost _ _ _ c.in_err-row.ensures.value in
+    let p = err_from_is_err_and c.from_residual-in_err-row.result c.from_residual-in_err-row.ensures.1 in
+    rw (p.1, p.2, z.1) (list_none (sound_of _ c.in_ok-shape.ensures) _ _ _ (sym z.0 ∙ c.list.ensures.0) c.list.ensures.1)
 
 pub size-requires : goal.size-requires
-size-requires c = let p = sound_of _ c.in-Sound.ensures refl in
-    (small_of p, row_low p _ _ c.list-row.ensures.0 [] (not-false _ c.if-not-row.false))
+size-requires c = let p = sound_of _ c.in_ok-shape.ensures in (small_of p, row_low p _ c.args.tray.now _ (sym c.in_ok-row.ensures.ok_part ∙ c.list.ensures.0))
 
-pub returns-in-Damaged : goal.returns-in-Damaged
-unfolding Lists list
-returns-in-Damaged c = refused-damaged _ c.in-Damaged.ensures refl _ _ _
-
-pub returns-else-not-row : goal.returns-else-not-row
+pub returns : goal.returns
 unfolding Lists
-returns-else-not-row c = list_done (sound_of _ c.in-Sound.ensures refl) _ _ c.list-row.ensures.0 _ (not-false _ c.if-not-row.false) c.if-tray-lt64.false _ _ c.list-row.ensures.1 c.size.ensures
+returns c = list_done (sound_of _ c.in_ok-shape.ensures) _ _ _ (sym c.in_ok-row.ensures.ok_part ∙ c.list.ensures.0) (omega (arith, c.if-tray-longest_name.false, c.longest_name.ensures)) _ _ c.list.ensures.1 c.size.ensures

@@ -3,36 +3,21 @@ use mathlib.Core.Path.{refl, sym, ◌∙◌}
 use native.Mathlib.Omega.{arith}
 use Rattle.layout.specs.Streams.{data_of, contents}
 use Rattle.laws.proofs.Laying.{length-contents}
-use Rattle.filing.proofs.Paging.{page_blank, turned_fits, turned_piece, piece_index, piece_length, piece_named}
+use Rattle.filing.proofs.Paging.{page_blank, turned_piece, piece_index, piece_length, piece_named}
 use Rattle.filing.proofs.Finding.{entries-start, find_here, find-next, find_none}
 use Rattle.filing.proofs.entries.find.Goals as goal
 
 pub loop-at-init : goal.loop-at-init
 loop-at-init c = (page_blank _ _ (sym (length-contents _ _ _ _ _)), omega arith, omega arith, rw (entries-start _))
 
-pub slice_bounds-turn-end : goal.slice_bounds-turn-end
-slice_bounds-turn-end c = omega (arith, c.loop-at.invariant.0.long)
-
-pub turn-from-requires : goal.turn-from-requires
-turn-from-requires c = (c.requires.0, c.loop-at.invariant.0)
-
-pub overflow_sub-o : goal.overflow_sub-o
-overflow_sub-o c = omega (arith, c.turn-from.ensures.low)
-
-pub slice_bounds-read_head-end : goal.slice_bounds-read_head-end
-slice_bounds-read_head-end c = omega (arith, turned_fits _ _ _ _ _ _ _ c.turn-from.ensures (sym (length-contents _ _ _ _ _)) refl c.least.ensures)
-
-pub slice_bounds-name_is-end : goal.slice_bounds-name_is-end
-slice_bounds-name_is-end c = omega (arith, turned_fits _ _ _ _ _ _ _ c.turn-from.ensures (sym (length-contents _ _ _ _ _)) refl c.least.ensures)
-
 pub returns-then-name_is : goal.returns-then-name_is
 returns-then-name_is c = let long = sym (length-contents _ _ _ _ _) in
-    let w = turned_piece _ _ _ _ _ _ _ c.turn-from.ensures long refl c.least.ensures in
+    let w = turned_piece _ _ _ _ _ _ _ c.turn-from.ensures long refl c.min.ensures in
     find_here _ _ _ _ _ _ _ _ long c.loop-at-test.true (piece_index _ _ _ w _ c.read_head-h.ensures.0) (piece_length _ _ _ w _ c.read_head-h.ensures.1) (piece_named _ _ _ w _ _ c.requires.2 c.name_is.ensures) c.if-name_is.true ∙ c.loop-at.invariant.3
 
 pub loop-at-preserved : goal.loop-at-preserved
 loop-at-preserved c = let long = sym (length-contents _ _ _ _ _) in
-    let w = turned_piece _ _ _ _ _ _ _ c.turn-from.ensures long refl c.least.ensures in (
+    let w = turned_piece _ _ _ _ _ _ _ c.turn-from.ensures long refl c.min.ensures in (
       c.turn-from.ensures.paged,
       omega (arith, c.loop-at.invariant.1),
       omega (arith, c.loop-at-test.true, c.requires.1, c.read_head-h.ensures.2),

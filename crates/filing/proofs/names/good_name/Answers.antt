@@ -1,12 +1,17 @@
 -- `filing::names::good_name` keeps its promise.
+use mathlib.Core.Path.{sym, ◌∙◌}
 use Rattle.filing.proofs.Naming.{name-short, name-long, name-rest}
 use Rattle.filing.proofs.names.good_name.Goals as goal
+use Rattle.filing.proofs.names.good_name.Goals.{then-not-is_empty, else-not-is_empty}
 
-pub returns-then-name-lt1 : goal.returns-then-name-lt1
-returns-then-name-lt1 c = name-short _ c.if-name-lt1.true
+pub returns-then-name-longest_name : goal.returns-then-name-longest_name
+returns-then-name-longest_name c = elim c.if-not-is_empty.branch [
+  | then-not-is_empty w ↦ name-rest _ _ w.longest_name.ensures (sym c.is_empty.ensures ∙ w.if-not-is_empty.true) _ (sym w.value-is ∙ c.if-name-longest_name.true) (c.contains.ensures.value ∙ rw c.slash.ensures)
+  | else-not-is_empty w ↦ absurd (cc)
+]
 
-pub returns-then-longest_name-name : goal.returns-then-longest_name-name
-returns-then-longest_name-name c = name-long _ _ c.longest_name.ensures c.if-longest_name-name.true
-
-pub returns : goal.returns
-returns c = name-rest _ _ _ c.longest_name.ensures c.if-name-lt1.false c.if-longest_name-name.false c.has_slash.ensures
+pub returns-else-name-longest_name : goal.returns-else-name-longest_name
+returns-else-name-longest_name c = elim c.if-not-is_empty.branch [
+  | then-not-is_empty w ↦ c.if-name-longest_name.false ∙ name-long _ _ w.longest_name.ensures (sym c.is_empty.ensures ∙ w.if-not-is_empty.true) (sym w.value-is ∙ c.if-name-longest_name.false)
+  | else-not-is_empty w ↦ c.if-name-longest_name.false ∙ name-short _ (sym c.is_empty.ensures ∙ w.if-not-is_empty.false)
+]

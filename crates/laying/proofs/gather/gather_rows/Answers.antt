@@ -1,30 +1,31 @@
 -- `laying::gather::gather_rows` keeps its promise.
-use mathlib.Core.Path.{ap, ◌∙◌}
-use Rattle.std.proofs.Common.{rules}
-use Prim.Native.Nat.{◌<◌}
+use mathlib.Core.Path.{refl, ap, ◌∙◌}
+use native.Mathlib.Nat.{mod-lt}
 use native.Mathlib.Omega.{arith}
-use lib.ListN.{length}
-use Rattle.laws.proofs.ByteLaws.{length_over}
+use Rattle.std.proofs.Common.{rules}
+use Rattle.layout.specs.Bytes.{over}
 use Rattle.layout.specs.Blocks.{slot}
-use Rattle.laying.proofs.Blockwise.{row_pos, part_low, part_high, part_end, rows_turn, gathered_end}
+use Rattle.blocks.proofs.Near.{fan_pos}
+use Rattle.laying.proofs.Blockwise.{rows_begin, rows_turn, gathered_end, row_room}
 use Rattle.laying.proofs.gather.gather_rows.Goals as goal
 
-pub piece_in-x-requires : goal.piece_in-x-requires
-piece_in-x-requires c =
-    let row = row_pos c.args.s c.requires.0.least in
-    (part_low _ _ c.args.n row _ c.loop-q.auto.q, part_high _ _ _ row _ _ c.div_ceil-q-end.ensures c.loop-q-test.true, c.requires.3)
+pub loop-q-init : goal.loop-q-init
+loop-q-init c = let least = c.requires.0.least in (mod-lt _ (fan_pos _ least), mod-lt _ (omega (arith, least)), omega arith, refl, ap (over _ _) (rows_begin _ _ (omega (arith, least)) _ _ _ _ c.requires.1))
 
 pub loop-q-preserved : goal.loop-q-preserved
 loop-q-preserved c =
-    let some : 0 < c.args.s.size = omega (arith, c.requires.0.least) in
-    let row = row_pos c.args.s c.requires.0.least in
-    let x = c.piece_in-x.ensures in
-    let done = c.gather_blocks.ensures (slot c.args.card.now c.args.s c.node-b.result) (λ k r e. search rules) in (
-      ap length done ∙ length_over _ _ _ ∙ c.loop-q.invariant.0,
-      rows_turn _ _ some _ _ _ _ _ _ _ _ _ (part_low _ _ c.args.n row _ c.loop-q.auto.q) (part_high _ _ _ row _ _ c.div_ceil-q-end.ensures c.loop-q-test.true) x.0 x.1 x.2 _ _ _ c.requires.1 c.node-b.ensures done ∙ c.loop-q.invariant.1,
+    let least = c.requires.0.least in
+    let i = c.loop-q.invariant in
+    let done = c.gather_blocks.ensures (slot c.args.card.now c.args.s c.node-b.result) (λ k x e. search rules) in (
+      fan_pos _ least,
+      omega (arith, least),
+      omega (arith, i.2, c.min-m.ensures, c.if-left-eq0.false, row_room c.args.s c.loop-q.i c.loop-q.r i.0 i.1),
+      omega (arith, i.3, c.min-m.ensures),
+      rows_turn _ _ (omega (arith, least)) _ _ _ _ _ _ _ _ _ _ _ c.requires.1 i.0 i.1 c.min-m.ensures c.node-b.ensures done ∙ i.4,
     )
 
+pub returns-then-left-eq0 : goal.returns-then-left-eq0
+returns-then-left-eq0 c = gathered_end _ _ _ _ _ _ _ (omega arith) ∙ c.loop-q.invariant.4
+
 pub returns : goal.returns
-returns c =
-    let row = row_pos c.args.s c.requires.0.least in
-    gathered_end _ _ _ _ _ _ _ (omega (arith, part_end _ c.args.p c.args.n row _ _ c.div_ceil-q-end.ensures c.loop-q-test.false)) ∙ c.loop-q.invariant.1
+returns c = gathered_end _ _ _ _ _ _ _ (omega (arith, c.loop-q.invariant.2, c.loop-q-test.false)) ∙ c.loop-q.invariant.4

@@ -1,23 +1,24 @@
 -- `laying::lay::lay_row` keeps its promise.
-use mathlib.Core.Path.{refl, ap, ◌∙◌}
-use Prim.Native.Nat.{◌<◌}
+use mathlib.Core.Path.{refl, ◌∙◌}
 use native.Mathlib.Omega.{arith}
-use lib.ListN.{length}
-use Rattle.laws.proofs.ByteLaws.{length_over}
-use Rattle.laying.proofs.Blockwise.{part_low, part_high, part_end}
-use Rattle.laying.proofs.Rowwise.{row-turn, row_begun, row_done}
+use Rattle.laying.proofs.Rowwise.{lay-turn, row_done}
 use Rattle.laying.proofs.lay.lay_row.Goals as goal
 
 pub loop-k-init : goal.loop-k-init
-loop-k-init c = (refl, row_begun _ _ _ _ _ _ _)
+loop-k-init c = (c.requires.1, omega arith, refl, refl)
 
 pub loop-k-preserved : goal.loop-k-preserved
 loop-k-preserved c =
-    let some : 0 < c.args.s.size = omega (arith, c.requires.0.least) in
-    let x = c.piece_in-x.ensures in (
-      ap length c.lay_block.ensures ∙ length_over _ _ _ ∙ c.loop-k.invariant.0,
-      row-turn c.args.s some _ _ _ _ _ _ _ _ c.requires.2 (part_low _ _ c.args.n some _ c.loop-k.auto.k) (part_high _ _ _ some _ _ c.div_ceil-k-end.ensures c.loop-k-test.true) x.0 x.1 x.2 _ _ _ _ c.slot-to.ensures.0 c.lay_block.ensures ∙ c.loop-k.invariant.1,
+    let size0 = c.requires.0.least in
+    let i = c.loop-k.invariant in (
+      omega (arith, size0),
+      omega (arith, i.0, i.1, c.min-m.ensures, c.if-left-eq0.false),
+      omega (arith, i.2, c.min-m.ensures),
+      lay-turn _ (omega (arith, size0)) _ _ _ _ (omega (arith, c.if-left-eq0.false)) (omega (arith, i.2, c.requires.3)) _ _ _ _ _ _ i.0 c.min-m.ensures c.slot.ensures.0 c.lay_block.ensures ∙ i.3,
     )
 
+pub returns-then-left-eq0 : goal.returns-then-left-eq0
+returns-then-left-eq0 c = row_done _ _ _ _ _ _ _ (omega arith) ∙ c.loop-k.invariant.3
+
 pub returns : goal.returns
-returns c = row_done _ _ _ _ _ _ _ (omega (arith, part_end c.args.s.size c.args.p c.args.n (omega (arith, c.requires.0.least)) _ _ c.div_ceil-k-end.ensures c.loop-k-test.false)) ∙ c.loop-k.invariant.1
+returns c = row_done _ _ _ _ _ _ _ (omega (arith, c.loop-k.invariant.1, c.loop-k-test.false)) ∙ c.loop-k.invariant.3
