@@ -4,7 +4,7 @@ ghost use Rattle.layout.specs.Bytes.{pick};
 ghost use Rattle.layout.specs.Filing.{name_length, entries, distinct_names};
 ghost use Rattle.layout.specs.Ranges.{Small};
 ghost use Rattle.filing.specs.Paged.{piece_at};
-ghost use Rattle.naming.specs.Buckets.{bucket_of, name_at, among, Linked, Filed};
+ghost use Rattle.naming.specs.Buckets.{bucket_of, name_at, among, up_to, Linked, Filed};
 ghost use Rattle.naming.specs.Rooted.{bytes_of, Tidy, Here};
 
 use filing::entries::read_head;
@@ -25,20 +25,17 @@ const ENTRIES: usize = 256;
 // The bytes of an entry before its name.
 pub const HEAD: usize = 6;
 
-// No entry, where entries count from 1.
-const NONE: u16 = 0;
-
 // An entry in its bucket: where it starts, and the entry before it there.
 #[derive(Clone, Copy)]
 struct Link {
     at: u32,
-    before: u16,
+    before: Option<u8>,
 }
 
 // Entries in their buckets: each bucket's last one, and from each entry the one before.
 #[derive(Drop)]
 struct Buckets {
-    last: [u16; BUCKETS],
+    last: [Option<u8>; BUCKETS],
     links: [Link; ENTRIES],
 }
 
@@ -54,18 +51,18 @@ fn bucket(name: &[u8]) -> usize
 }
 
 impl Buckets {
-    // Whether one of the first `x` entries has that name, where the last of them is in its bucket.
-    fn met(&self, card: &[u8], s: Shape, t: Desc, x: u16, name: &[u8]) -> bool
-        requires { Small card.now s × (length name.now ≤ 64) × (x ≤ 256) × (x ≤ length (entries (bytes_of card.now s t))) × (length self.now.links ≡ 256) × Linked (entries (bytes_of card.now s t)) x self.now.links × (x ≢ 0 → bucket_of (name_at (entries (bytes_of card.now s t)) (x - 1)) ≡ bucket_of name.now) }
-        ensures { result ≡ among (entries (bytes_of card.now s t)) x name.now }
+    // Whether one of the entries up to number `x` has that name, where entry `x` is in its bucket.
+    fn met(&self, card: &[u8], s: Shape, t: Desc, x: Option<u8>, name: &[u8]) -> bool
+        requires { Small card.now s × (length name.now ≤ 64) × (up_to x ≤ length (entries (bytes_of card.now s t))) × (length self.now.links ≡ 256) × Linked (entries (bytes_of card.now s t)) (up_to x) self.now.links × (up_to x ≢ 0 → bucket_of (name_at (entries (bytes_of card.now s t)) (up_to x - 1)) ≡ bucket_of name.now) }
+        ensures { result ≡ among (entries (bytes_of card.now s t)) (up_to x) name.now }
     {
-        let mut left = x;
-        while left != NONE {
-            let link = self.links[usize::from(left - 1)];
+        let mut last = x;
+        while let Some(j) = last {
+            let link = self.links[usize::from(j)];
             if name_at(card, s, t, link.at as usize, name) {
                 return true;
             }
-            left = link.before;
+            last = link.before;
         }
         false
     }
@@ -95,7 +92,7 @@ impl Buckets {
             at: at as u32,
             before,
         };
-        self.last[h] = (i + 1) as u16;
+        self.last[h] = Some(i as u8);
         Some(n)
     }
 }
@@ -108,10 +105,10 @@ pub fn names_apart(card: &[u8], s: Shape, t: Desc) -> bool
 {
     let none = Link {
         at: 0,
-        before: NONE,
+        before: None,
     };
     let mut buckets = Buckets {
-        last: [NONE; BUCKETS],
+        last: [None; BUCKETS],
         links: [none; ENTRIES],
     };
     let mut page = [0; PAGE];

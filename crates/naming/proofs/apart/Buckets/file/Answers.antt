@@ -11,7 +11,6 @@ pub met-requires : goal.met-requires
 met-requires c = let x_low = x_le _ _ _ c.requires.1 _ c.requires.3 _ c.requires.2 _ c.read_head-n.ensures.1 _ refl _ _ c.bucket-h.ensures.0 c.bucket-h.ensures.1 refl in (
   c.requires.0,
   name-short _ _ _ c.requires.1 _ c.requires.3 _ c.requires.2 _ c.read_head-n.ensures.1 _ refl,
-  omega (arith, x_low, c.requires.1.few),
   omega (arith, x_low, c.requires.1.inside),
   c.requires.3.long,
   x_linked _ _ _ c.requires.1 _ c.requires.3 _ c.requires.2 _ c.read_head-n.ensures.1 _ refl _ _ c.bucket-h.ensures.0 c.bucket-h.ensures.1 refl,
