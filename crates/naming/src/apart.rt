@@ -7,7 +7,7 @@ ghost use Rattle.filing.specs.Paged.{piece_at};
 ghost use Rattle.naming.specs.Buckets.{bucket_of, name_at, among, up_to, Linked, Filed};
 ghost use Rattle.naming.specs.Rooted.{bytes_of, Tidy, Here};
 
-use filing::entries::read_head;
+use filing::entries::{HEAD, read_head};
 use filing::pages::{PAGE, PIECE, name_at, turn};
 use layout::{Desc, Shape};
 
@@ -21,9 +21,6 @@ const FACTOR: usize = 31;
 
 // The most entries that a directory has.
 const ENTRIES: usize = 256;
-
-// The bytes of an entry before its name.
-pub const HEAD: usize = 6;
 
 // An entry in its bucket: where it starts, and the entry before it there.
 #[derive(Clone, Copy)]
@@ -98,7 +95,7 @@ impl Buckets {
 }
 
 // Whether no name stands twice in the directory that `t` describes: its entries are filed one after the other, up to the
-// first whose name was met.
+// first whose name was met. No `for`: only an entry's bytes tell where the next one starts.
 pub fn names_apart(card: &[u8], s: Shape, t: Desc) -> bool
     requires { Small card.now s × Tidy (bytes_of card.now s t) }
     ensures { result ≡ distinct_names (entries (bytes_of card.now s t)) }
