@@ -97,12 +97,48 @@ fn write_rule<D: Damage>(
 fn main(rt: HostRuntime) -> anyhow::Result<()> {
     let alloc = rt.alloc();
     write_rule(&rt, alloc, SOUND, &undamaged::KINDS, OF_KIND)?;
-    write_rule(&rt, alloc, Rule::Length.number(), &lengths::SHORT, OF_CLAUSE)?;
-    write_rule(&rt, alloc, Rule::FixedValues.number(), &fixed::FIXED, OF_CLAUSE)?;
-    write_rule(&rt, alloc, Rule::Blocks.number(), &lengths::MISFITS, OF_CLAUSE)?;
+    write_rule(
+        &rt,
+        alloc,
+        Rule::Length.number(),
+        &lengths::SHORT,
+        OF_CLAUSE,
+    )?;
+    write_rule(
+        &rt,
+        alloc,
+        Rule::FixedValues.number(),
+        &fixed::FIXED,
+        OF_CLAUSE,
+    )?;
+    write_rule(
+        &rt,
+        alloc,
+        Rule::Blocks.number(),
+        &lengths::MISFITS,
+        OF_CLAUSE,
+    )?;
     write_rule(&rt, alloc, Rule::Table.number(), &own::OWN, OF_CLAUSE)?;
-    write_rule(&rt, alloc, Rule::Descriptors.number(), &descriptors::DESCRIPTORS, OF_CLAUSE)?;
-    write_rule(&rt, alloc, Rule::Pyramids.number(), &stream_pyramids::PYRAMIDS, OF_CLAUSE)?;
-    write_rule(&rt, alloc, Rule::FreeChain.number(), &chain::CHAIN, OF_CLAUSE)?;
+    write_rule(
+        &rt,
+        alloc,
+        Rule::Descriptors.number(),
+        &descriptors::DESCRIPTORS,
+        OF_CLAUSE,
+    )?;
+    write_rule(
+        &rt,
+        alloc,
+        Rule::Pyramids.number(),
+        &stream_pyramids::PYRAMIDS,
+        OF_CLAUSE,
+    )?;
+    write_rule(
+        &rt,
+        alloc,
+        Rule::FreeChain.number(),
+        &chain::CHAIN,
+        OF_CLAUSE,
+    )?;
     write_rule(&rt, alloc, Rule::Root.number(), &root::ROOT, OF_CLAUSE)
 }
