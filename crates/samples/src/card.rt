@@ -1,4 +1,6 @@
 // A card: the plan with its blocks given out (G5), and its bytes, where its parts are put.
+ghost use Rattle.std.specs.Prelude.{◌≡◌, vec_len};
+
 use crate::fault::Fault;
 use crate::image::{Field, Image};
 use crate::kinds::Kind;
@@ -56,36 +58,48 @@ impl Card {
     }
 
     // A field of an owner's descriptor.
-    pub fn put_part(&mut self, owner: Owner, part: Part, v: u64) -> Option<()> {
+    pub fn put_part(&mut self, owner: Owner, part: Part, v: u64) -> Option<()>
+        ensures { vec_len self.new.image.bytes ≡ vec_len self.old.image.bytes }
+    {
         let desc = self.desc(owner)?;
         self.image.put_part(&self.plan.streams.table, desc, part, v)
     }
 
     // An owner's descriptor but for its flags.
-    pub fn put_desc(&mut self, owner: Owner, size: u64, top: u64, reserved: u64) -> Option<()> {
+    pub fn put_desc(&mut self, owner: Owner, size: u64, top: u64, reserved: u64) -> Option<()>
+        ensures { vec_len self.new.image.bytes ≡ vec_len self.old.image.bytes }
+    {
         let desc = self.desc(owner)?;
         self.image
             .put_desc(&self.plan.streams.table, desc, size, top, reserved)
     }
 
     // A field of the free descriptor `k`.
-    pub fn put_spare(&mut self, k: u16, part: Part, v: u64) -> Option<()> {
+    pub fn put_spare(&mut self, k: u16, part: Part, v: u64) -> Option<()>
+        ensures { vec_len self.new.image.bytes ≡ vec_len self.old.image.bytes }
+    {
         let desc = Desc::Table(k);
         self.image.put_part(&self.plan.streams.table, desc, part, v)
     }
 
     // The table's first bytes.
-    pub fn put_first_offset(&mut self, v: u64) -> Option<()> {
+    pub fn put_first_offset(&mut self, v: u64) -> Option<()>
+        ensures { vec_len self.new.image.bytes ≡ vec_len self.old.image.bytes }
+    {
         self.image.put_in(&self.plan.streams.table, FIRST_OFFSET, v)
     }
 
     // A number in the root.
-    pub fn put_in_root(&mut self, field: Field, v: u64) -> Option<()> {
+    pub fn put_in_root(&mut self, field: Field, v: u64) -> Option<()>
+        ensures { vec_len self.new.image.bytes ≡ vec_len self.old.image.bytes }
+    {
         self.image.put_in(&self.plan.streams.root, field, v)
     }
 
     // The first-free field.
-    pub fn put_first_free(&mut self, v: u64) -> Option<()> {
+    pub fn put_first_free(&mut self, v: u64) -> Option<()>
+        ensures { vec_len self.new.image.bytes ≡ vec_len self.old.image.bytes }
+    {
         self.image.put(FIRST_FREE, v)
     }
 }

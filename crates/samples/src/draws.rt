@@ -72,6 +72,7 @@ impl Draws {
     pub fn turn_of<T: Copy>(&self, items: &[T]) -> Option<T>
         ensures some { IsSome result ↔ (0 < length items.now) }
         ensures item { IfSome result (λ x. slice_get items.now (self.now.turn % length items.now) ≡ Some x) }
+        ensures member { IfSome result (λ x. Contains items.now x) }
     {
         let i = self.turn.checked_rem(items.len())?;
         items.get(i).copied()

@@ -17,7 +17,9 @@ pub const BEFORE_NAME: u16 = 6;
 
 impl Entry {
     // Where the index stands in the root.
-    pub fn index_field(self) -> Field {
+    pub fn index_field(self) -> Field
+        ensures { (result.at ≡ self.place) × (result.width ≡ 4) }
+    {
         Field {
             at: self.place,
             width: 4,
@@ -25,7 +27,9 @@ impl Entry {
     }
 
     // Where the name's length stands in the root.
-    pub fn length_field(self) -> Option<Field> {
+    pub fn length_field(self) -> Option<Field>
+        ensures { IfSome result (λ f. (f.at ≡ self.place + 4) × (f.width ≡ 2)) }
+    {
         let at = self.place.checked_add(4)?;
         Some(Field { at, width: 2 })
     }

@@ -1,4 +1,6 @@
 // How many of a card's blocks are free.
+ghost use Rattle.std.specs.Prelude.{◌≡◌, IfSome};
+ghost use Rattle.samples.specs.Counts.{counted};
 
 // The most blocks of a card.
 const MOST_BLOCKS: u32 = 4096;
@@ -22,7 +24,9 @@ impl Free {
     }
 
     // The blocks of a card of which so many are used.
-    pub fn count(self, used: u32) -> Option<u32> {
+    pub fn count(self, used: u32) -> Option<u32>
+        ensures { IfSome result (λ n. n ≡ counted self used) }
+    {
         match self {
             Free::Drawn(q) => used.checked_add(q),
             Free::Even(q) => {

@@ -1,9 +1,9 @@
 // The bytes of a card, with one block more, and how many of them are shown.
-ghost use Rattle.std.specs.Prelude.{◌≡◌, vec_len};
+ghost use Rattle.std.specs.Prelude.{◌≡◌, ◌+◌, ◌*◌, ◌^◌, vec_len, take, IfOk, IfSome};
 
 use crate::draws::Draws;
 use crate::owners::Stream;
-use crate::sizes::BlockSize;
+use crate::sizes::{BlockSize, HEADER};
 use std::alloc::{AllocError, Global};
 
 // A number on a card or in a stream's contents: where it stands, and in how many bytes, 8 at most.
@@ -28,7 +28,10 @@ impl Image {
         draws: &mut Draws,
         block: BlockSize,
         count: u16,
-    ) -> Result<Image, AllocError> {
+    ) -> Result<Image, AllocError>
+        ensures length { IfOk result (λ i. i.length ≡ HEADER + count * 2 ^ block.shift) }
+        ensures bytes { IfOk result (λ i. vec_len i.bytes ≡ i.length + 2 ^ block.shift) }
+    {
         let length = block.start(count) as usize;
         let mut bytes = vec![in alloc; 0; length + usize::from(block.bytes())]?;
         draws.noise(&mut bytes);
@@ -40,7 +43,9 @@ impl Image {
     }
 
     // The card itself.
-    pub fn shown(&self) -> Option<&[u8]> {
+    pub fn shown(&self) -> Option<&[u8]>
+        ensures { IfSome result (λ s. s.now ≡ take self.now.length self.now.bytes.items) }
+    {
         self.bytes.get(..self.length)
     }
 
@@ -103,7 +108,9 @@ impl Image {
     }
 
     // The slot that names block `j` of row `t` of a stream.
-    pub fn slot(&self, stream: &Stream, t: usize, j: usize) -> Option<Field> {
+    pub fn slot(&self, stream: &Stream, t: usize, j: usize) -> Option<Field>
+        ensures { IfSome result (λ f. f.width ≡ 4) }
+    {
         let f = usize::from(self.block.slots());
         let block = *stream.row(t.checked_add(1)?)?.get(j / f)?;
         let slot = (j % f) as u32;
