@@ -12,7 +12,7 @@ use Rattle.laws.proofs.ByteLaws.{over-take, over_past, take-over, num_past, leng
 use Rattle.laws.proofs.Splice.{splice_over}
 
 -- as many bytes as the part has, in its place
-over_mid : (l ys : List ℕ) (a m : ℕ) → length ys ≡ m → a + m ≤ length l → put_mid a m l ys ≡ over l a ys
+pub over_mid : (l ys : List ℕ) (a m : ℕ) → length ys ≡ m → a + m ≤ length l → put_mid a m l ys ≡ over l a ys
 unfolding spliced
 over_mid l ys a m n h =
     let d : drop m (drop a l) ≡ drop (a + length ys) l = drop-drop m a l ∙ ap (λ (i : ℕ). drop i l) (omega arith) in
@@ -27,12 +27,16 @@ over_part l vs ys at a m e f g =
       | no u ↦ let same : a ≡ at = omega arith in rw (same, g) (over-take vs l at m (omega arith))
     ]
 
+-- written over from end to end
+pub over-whole : (l vs : List ℕ) → length vs ≡ length l → over l 0 vs ≡ vs
+over-whole l vs e =
+    let n = length_over l 0 vs in
+    sym (take_all (length l) (over l 0 vs) (omega arith)) ∙ take-over l vs (length l) (sym e) (omega arith)
+
 -- a number that fills a list
 pub put-all : (l : List ℕ) (v : ℕ) → put (length l) l 0 v ≡ bytes (length l) v
 unfolding put
-put-all l v =
-    let n : length (bytes (length l) v) ≡ length l = length-bytes (length l) v in
-    sym (take_all (length l) (over l 0 (bytes (length l) v)) (rw length_over (omega arith))) ∙ take-over l (bytes (length l) v) (length l) (sym n) (omega arith)
+put-all l v = over-whole l (bytes (length l) v) (length-bytes (length l) v)
 
 -- a number put into the part of its width
 pub put_part : (l mid new : List ℕ) (at a m v : ℕ) → a ≡ min at (length l) → m ≤ length l - a → length mid ≡ m → new ≡ put (length mid) mid 0 v → put_mid a m l new ≡ put m l at v
