@@ -47,11 +47,14 @@ pub fn find(card: &[u8], s: Cut, t: Desc, name: &[u8]) -> Option<Found>
 {
     let size = t.size;
     let mut page = [0; PAGE];
+    // Nothing is on the page yet.
     let mut from = size;
     let mut at = 0;
-    let mut number = 0;
-    // The step is the entry's own length, which only its page tells, so no `for`; an iterator would lend its page with each entry.
-    while at < size {
+    // No more entries than bytes: the step is the entry's own length, which its page tells.
+    for number in 0..size {
+        if size <= at {
+            break;
+        }
         from = turn(&*card, s, t, &mut page, from, at);
         let o = at - from;
         let e = o + PIECE.min(size - at);
@@ -64,7 +67,6 @@ pub fn find(card: &[u8], s: Cut, t: Desc, name: &[u8]) -> Option<Found>
             });
         }
         at += HEAD + h.length;
-        number += 1;
     }
     None
 }

@@ -25,16 +25,19 @@ pub fn nth_entry(card: &[u8], s: Cut, t: Desc, n: usize) -> Option<Row>
 {
     let size = t.size;
     let mut page = [0; PAGE];
+    // Nothing is on the page yet.
     let mut from = size;
     let mut at = 0;
-    let mut left = n;
-    // As in `find`: the step is the entry's own length.
-    while at < size {
+    // No more entries than bytes, as in `find`.
+    for k in 0..size {
+        if size <= at {
+            break;
+        }
         from = turn(&*card, s, t, &mut page, from, at);
         let o = at - from;
         let e = o + PIECE.min(size - at);
         let h = read_head(&page[o..e]);
-        if left == 0 {
+        if k == n {
             return Some(Row {
                 index: h.index,
                 at,
@@ -42,7 +45,6 @@ pub fn nth_entry(card: &[u8], s: Cut, t: Desc, n: usize) -> Option<Row>
             });
         }
         at += HEAD + h.length;
-        left -= 1;
     }
     None
 }

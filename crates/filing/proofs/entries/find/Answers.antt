@@ -7,22 +7,25 @@ use Rattle.filing.proofs.Paging.{page_blank, turned_piece, piece_index, piece_le
 use Rattle.filing.proofs.Finding.{entries-start, find_here, find-next, find_none}
 use Rattle.filing.proofs.entries.find.Goals as goal
 
-pub loop-at-init : goal.loop-at-init
-loop-at-init c = (page_blank _ _ (sym (length-contents _ _ _ _ _)), omega arith, omega arith, rw (entries-start _))
+pub loop-number-init : goal.loop-number-init
+loop-number-init c = (page_blank _ _ (sym (length-contents _ _ _ _ _)), omega arith, omega arith, rw (entries-start _))
 
 pub returns-then-name_is : goal.returns-then-name_is
 returns-then-name_is c = let long = sym (length-contents _ _ _ _ _) in
     let w = turned_piece _ _ _ _ _ _ _ c.turn-from.ensures long refl c.min.ensures in
-    find_here _ _ _ _ _ _ _ _ long c.loop-at-test.true (piece_index _ _ _ w _ c.read_head-h.ensures.0) (piece_length _ _ _ w _ c.read_head-h.ensures.1) (piece_named _ _ _ w _ _ c.requires.1 c.name_is.ensures) c.if-name_is.true ∙ c.loop-at.invariant.3
+    find_here _ _ _ _ _ _ _ _ long c.if-size-at.false (piece_index _ _ _ w _ c.read_head-h.ensures.0) (piece_length _ _ _ w _ c.read_head-h.ensures.1) (piece_named _ _ _ w _ _ c.requires.1 c.name_is.ensures) c.if-name_is.true ∙ c.loop-number.invariant.3
 
-pub loop-at-preserved : goal.loop-at-preserved
-loop-at-preserved c = let long = sym (length-contents _ _ _ _ _) in
+pub loop-number-preserved : goal.loop-number-preserved
+loop-number-preserved c = let long = sym (length-contents _ _ _ _ _) in
     let w = turned_piece _ _ _ _ _ _ _ c.turn-from.ensures long refl c.min.ensures in (
       c.turn-from.ensures.paged,
-      omega (arith, c.loop-at.invariant.1),
-      omega (arith, c.loop-at-test.true, c.requires.0, c.read_head-h.ensures.2),
-      find-next _ _ _ _ _ _ _ _ long c.loop-at-test.true (piece_index _ _ _ w _ c.read_head-h.ensures.0) (piece_length _ _ _ w _ c.read_head-h.ensures.1) (piece_named _ _ _ w _ _ c.requires.1 c.name_is.ensures) c.if-name_is.false ∙ c.loop-at.invariant.3,
+      omega (arith, c.loop-number.invariant.1),
+      omega (arith, c.if-size-at.false, c.requires.0, c.read_head-h.ensures.2),
+      find-next _ _ _ _ _ _ _ _ long c.if-size-at.false (piece_index _ _ _ w _ c.read_head-h.ensures.0) (piece_length _ _ _ w _ c.read_head-h.ensures.1) (piece_named _ _ _ w _ _ c.requires.1 c.name_is.ensures) c.if-name_is.false ∙ c.loop-number.invariant.3,
     )
 
-pub returns : goal.returns
-returns c = let a = c.args in find_none (contents a.card.now a.s a.t.top (data_of a.s a.t) a.t.size) a.name.now _ _ _ _ c.loop-at.invariant.3 (sym (length-contents _ _ _ _ _)) c.loop-at-test.false
+pub returns-then-size-at : goal.returns-then-size-at
+returns-then-size-at c = let a = c.args in find_none (contents a.card.now a.s a.t.top (data_of a.s a.t) a.t.size) a.name.now _ _ _ _ c.loop-number.invariant.3 (sym (length-contents _ _ _ _ _)) c.if-size-at.true
+
+pub returns-after-loop-number : goal.returns-after-loop-number
+returns-after-loop-number c = let a = c.args in find_none (contents a.card.now a.s a.t.top (data_of a.s a.t) a.t.size) a.name.now _ _ _ _ c.loop-number.invariant.3 (sym (length-contents _ _ _ _ _)) (omega (arith, c.loop-number.invariant.1, c.loop-number-test.false))

@@ -1,5 +1,7 @@
 -- `filing::listing::nth_entry` keeps its promise.
-use mathlib.Core.Path.{refl, sym, ◌∙◌}
+use mathlib.Core.Path.{◌≡◌, refl, sym, ◌∙◌}
+use mathlib.Core.Logic.{◌≢◌}
+use Prim.Native.Nat.{◌+◌, ◌-◌}
 use native.Mathlib.Omega.{arith}
 use Rattle.layout.specs.Streams.{data_of, contents}
 use Rattle.laws.proofs.Laying.{length-contents}
@@ -7,26 +9,29 @@ use Rattle.filing.proofs.Paging.{page_blank, turned_piece, piece_index, piece_le
 use Rattle.filing.proofs.Finding.{entries-start, nth_here, nth_next, nth_none}
 use Rattle.filing.proofs.listing.nth_entry.Goals as goal
 
-pub loop-at-init : goal.loop-at-init
-loop-at-init c = (page_blank _ _ (sym (length-contents _ _ _ _ _)), omega arith, rw (entries-start _))
+pub loop-k-init : goal.loop-k-init
+loop-k-init c = let z : c.args.n - 0 ≡ c.args.n = omega arith in (page_blank _ _ (sym (length-contents _ _ _ _ _)), omega arith, omega arith, omega arith, rw (entries-start _, z))
 
-pub returns-then-left-eq0 : goal.returns-then-left-eq0
-returns-then-left-eq0 c = let long = sym (length-contents _ _ _ _ _) in
-    let w = turned_piece _ _ _ _ _ _ _ c.turn-from.ensures long refl c.min.ensures in record {
-      numbered = nth_here _ _ _ _ _ long c.loop-at-test.true (piece_index _ _ _ w _ c.read_head-h.ensures.0) (piece_length _ _ _ w _ c.read_head-h.ensures.1) _ _ _ c.if-left-eq0.true c.saturating_sub.ensures c.min-then-left-eq0.ensures ∙ c.loop-at.invariant.2;
-      at = omega (arith, c.loop-at-test.true);
-    }
+pub returns-then-k-n-clause-numbered : goal.returns-then-k-n-clause-numbered
+returns-then-k-n-clause-numbered c = let long = sym (length-contents _ _ _ _ _) in
+    let w = turned_piece _ _ _ _ _ _ _ c.turn-from.ensures long refl c.min.ensures in
+    nth_here _ _ _ _ _ long c.if-size-at.false (piece_index _ _ _ w _ c.read_head-h.ensures.0) (piece_length _ _ _ w _ c.read_head-h.ensures.1) _ _ _ (omega (arith, c.if-k-n.true)) c.saturating_sub.ensures c.min-then-k-n.ensures ∙ c.loop-k.invariant.4
 
-pub loop-at-preserved : goal.loop-at-preserved
-loop-at-preserved c = let long = sym (length-contents _ _ _ _ _) in
-    let w = turned_piece _ _ _ _ _ _ _ c.turn-from.ensures long refl c.min.ensures in (
+pub loop-k-preserved : goal.loop-k-preserved
+loop-k-preserved c = let long = sym (length-contents _ _ _ _ _) in
+    let i = c.loop-k.invariant in
+    let w = turned_piece _ _ _ _ _ _ _ c.turn-from.ensures long refl c.min.ensures in
+    let more : c.args.n - c.loop-k.k ≢ 0 = λ z. c.if-k-n.false (omega (arith, i.2)) in
+    let next : c.args.n - (c.loop-k.k + 1) ≡ c.args.n - c.loop-k.k - 1 = omega arith in (
       c.turn-from.ensures.paged,
-      omega (arith, c.loop-at-test.true, c.requires, c.read_head-h.ensures.2),
-      nth_next _ _ _ _ _ long c.loop-at-test.true (piece_index _ _ _ w _ c.read_head-h.ensures.0) (piece_length _ _ _ w _ c.read_head-h.ensures.1) _ c.if-left-eq0.false ∙ c.loop-at.invariant.2,
+      omega (arith, i.1),
+      omega (arith, i.2, more),
+      omega (arith, c.if-size-at.false, c.requires, c.read_head-h.ensures.2),
+      rw next (nth_next _ _ _ _ _ long c.if-size-at.false (piece_index _ _ _ w _ c.read_head-h.ensures.0) (piece_length _ _ _ w _ c.read_head-h.ensures.1) _ more) ∙ i.4,
     )
 
-pub returns : goal.returns
-returns c = let a = c.args in record {
-  numbered = nth_none (contents a.card.now a.s a.t.top (data_of a.s a.t) a.t.size) _ _ _ _ c.loop-at.invariant.2 (sym (length-contents _ _ _ _ _)) c.loop-at-test.false;
-  at = tt;
-}
+pub returns-then-size-at-clause-numbered : goal.returns-then-size-at-clause-numbered
+returns-then-size-at-clause-numbered c = let a = c.args in nth_none (contents a.card.now a.s a.t.top (data_of a.s a.t) a.t.size) _ _ _ _ c.loop-k.invariant.4 (sym (length-contents _ _ _ _ _)) c.if-size-at.true
+
+pub returns-after-loop-k-clause-numbered : goal.returns-after-loop-k-clause-numbered
+returns-after-loop-k-clause-numbered c = let a = c.args in nth_none (contents a.card.now a.s a.t.top (data_of a.s a.t) a.t.size) _ _ _ _ c.loop-k.invariant.4 (sym (length-contents _ _ _ _ _)) (omega (arith, c.loop-k.invariant.1, c.loop-k-test.false))

@@ -1,15 +1,12 @@
 -- `filing::listing::nth_entry` keeps its promise.
 use mathlib.Core.Path.{◌≡◌}
 use lib.ListN.{length}
-use Prim.Native.Nat.{◌-◌, ◌^◌, ◌<◌}
+use Prim.Native.Nat.{◌-◌, ◌^◌, ◌≤◌, ◌<◌}
 use Rattle.layout.specs.Streams.{data_of, contents}
 use Rattle.layout.specs.Filing.{entries, entries_from}
 use Rattle.filing.specs.Located.{numbered}
 use Rattle.filing.specs.Paged.{Paged}
 use Rattle.filing.proofs.listing.nth_entry.Given as goal
 
-abbrev pub invariant-loop-at : goal.invariant-loop-at
-invariant-loop-at l = Paged l.page l.from (contents l.card l.s l.t.top (data_of l.s l.t) l.t.size) × (l.at < 2 ^ 63) × (numbered (entries_from (length (contents l.card l.s l.t.top (data_of l.s l.t) l.t.size)) (contents l.card l.s l.t.top (data_of l.s l.t) l.t.size) l.at) l.left ≡ numbered (entries (contents l.card l.s l.t.top (data_of l.s l.t) l.t.size)) l.n)
-
-abbrev pub decreases-loop-at : goal.decreases-loop-at
-decreases-loop-at l = l.t.size - l.at
+abbrev pub invariant-loop-k : goal.invariant-loop-k
+invariant-loop-k l = Paged l.page l.from (contents l.card l.s l.t.top (data_of l.s l.t) l.t.size) × (l.k ≤ l.at) × (l.k ≤ l.n) × (l.at < 2 ^ 63) × (numbered (entries_from (length (contents l.card l.s l.t.top (data_of l.s l.t) l.t.size)) (contents l.card l.s l.t.top (data_of l.s l.t) l.t.size) l.at) (l.n - l.k) ≡ numbered (entries (contents l.card l.s l.t.top (data_of l.s l.t) l.t.size)) l.n)
