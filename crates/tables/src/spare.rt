@@ -9,7 +9,6 @@ ghost use Rattle.tables.specs.Compared.{right_mark, asked, number_at, spares};
 ghost use Rattle.tables.specs.OnPage.{Reads};
 
 use crate::forms::{LENGTH, START, good_forms};
-use crate::table::LONGEST;
 use blocks::chain::END8;
 use blocks::cut::Cut;
 use laying::gather::gather_stream;
@@ -99,7 +98,7 @@ pub fn rule5(card: &[u8], s: Cut, tab: &mut [u8], marks: &mut [u8]) -> bool
     ensures { (result ≡ rule5 card.now s) × Reads tab.new (table_bytes card.now s) }
 {
     let n = descriptors(card, s);
-    gather_stream(card, s, table(card, s), 0, tab, 0, LONGEST);
+    gather_stream(card, s, table(card, s), 0, tab);
     if !good_forms(s, tab, n) {
         return false;
     }
