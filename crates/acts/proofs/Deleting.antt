@@ -1,10 +1,10 @@
 -- A stream's descriptor freed: two numbers on a page are its first fields.
 use mathlib.Core.Path.{◌≡◌, refl, sym, ap, ◌∙◌}
 use mathlib.Core.List.{List, ◌++◌}
-use Prim.Native.Nat.{ℕ, ◌+◌, ◌*◌, ◌<◌}
+use Prim.Native.Nat.{ℕ, ◌+◌, ◌*◌}
 use lib.ListN.{length, replicate, length-append}
 use Rattle.layout.specs.Bytes.{num, bytes, over, put, end8}
-use Rattle.layout.specs.Streams.{table_bytes, stream, in_table, shortened}
+use Rattle.layout.specs.Streams.{table_bytes, in_table, shortened}
 use Rattle.layout.specs.Calls.{undescribed}
 use Rattle.laws.proofs.ByteLaws.{length-bytes, over-append}
 use Rattle.memory.proofs.Parts.{over-whole}
@@ -23,6 +23,3 @@ unfolding undescribed
 freed c c₁ c₂ c₃ page₁ page₂ s j first e f g h u v =
     let p = two_numbers (replicate 16 0) page₁ page₂ first end8 refl g h in
     v ∙ rw (u, p, f, e)
-
-pub size_then : (c c₁ : List ℕ) (s : Shape) (j k m : ℕ) → c₁ ≡ undescribed c s j → (stream (undescribed c s j) s k).size < m → (stream c₁ s k).size < m
-size_then c c₁ s j k m e h = rw e h

@@ -53,6 +53,7 @@ pub fn lay(card: &mut [u8], s: Cut, top: usize, h: usize, p: usize, given: &[u8]
     let mut i = p / size % f;
     let mut r = p % size;
     let mut rest = given;
+    // No more rows than bytes.
     for q in first..first + given.len() {
         if rest.is_empty() {
             return;

@@ -6,7 +6,7 @@ use Prim.Native.Nat.{ℕ, ◌+◌, ◌-◌, ◌/◌, ◌%◌, ◌≤◌}
 use native.Mathlib.Nat.{div-add-mod'}
 use native.Mathlib.Decide.{dec_lt}
 use native.Mathlib.Omega.{arith}
-use lib.ListN.{take, drop, replicate, length-replicate, get_or-eq_default}
+use lib.ListN.{length, take, drop, replicate, length-replicate, get_or-eq_default}
 use lib.Dec.{eqb}
 use Rattle.layout.specs.Limits.{most_streams}
 use Rattle.layout.specs.Bytes.{pick, both, num, over, end8, separate}
