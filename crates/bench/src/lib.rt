@@ -8,17 +8,19 @@ ghost use Rattle.layout.specs.Blocks.{node, first_free, enough, taken, grown, su
 ghost use Rattle.layout.specs.Streams.{contents, laid};
 ghost use Rattle.layout.specs.Sound.{broken};
 ghost use Rattle.layout.specs.Ranges.{Small};
+ghost use Rattle.blocks.specs.Narrow.{Narrow};
 ghost use Rattle.blocks.specs.Plain.{plain_shape};
 ghost use Rattle.sound.specs.Lowest.{rule_in};
 ghost use Rattle.bench.specs.Cuts.{cut};
 
 use blocks::chain::{enough, take_block};
+use blocks::cut::Cut;
 use blocks::growth::grow;
 use blocks::reader::{node, reader};
 use laying::gather::gather_stream;
 use laying::lay::lay;
 use layout::answers::Rule;
-use layout::{Desc, Shape};
+use layout::Desc;
 use marking::marks::release;
 use memory::runs::{clear, copy, matches};
 use sound::check::{check, check_on};
@@ -29,11 +31,12 @@ const LONGEST_TABLE: usize = 6408;
 // Sixteen times the marks that a card can need.
 const WIDE_MARKS: usize = 65536;
 
-// A card's Shape, as far as these layers go by it.
-fn cut_of(base: usize, size: usize, count: usize, first: usize) -> Shape
+// A card's shape, as far as these layers go by it.
+fn cut_of(base: usize, size: usize, count: usize, first: usize) -> Cut
+    requires { Narrow (cut base size count first) }
     ensures { result ≡ cut base size count first }
 {
-    Shape {
+    Cut {
         base,
         size,
         count,
@@ -200,7 +203,8 @@ pub extern "C" fn bench_gather(
         reserved,
         flags: 0,
     };
-    gather_stream(&*card, s, t, p, tray, 0, n);
+    let m = n.min(tray.len());
+    gather_stream(&*card, s, t, p, &mut tray[..m]);
 }
 
 #[unsafe(no_mangle)]
@@ -220,7 +224,7 @@ pub extern "C" fn bench_lay(
     ensures { card.new ≡ laid card.old (cut base size count first) top h p (take n (drop 0 given.now)) }
 {
     let s = cut_of(base, size, count, first);
-    lay(card, s, top, h, p, &*given, 0, n);
+    lay(card, s, top, h, p, &given[..n]);
 }
 
 #[unsafe(no_mangle)]

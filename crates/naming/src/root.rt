@@ -9,9 +9,9 @@ ghost use Rattle.layout.specs.Sound.{rule4, rule8};
 ghost use Rattle.tables.specs.OnPage.{Reads};
 ghost use Rattle.naming.specs.Rooted.{bytes_of, good_at, tidy_from, indices};
 
-use crate::apart::{HEAD, names_apart};
+use crate::apart::names_apart;
 use blocks::cut::Cut;
-use filing::entries::read_head;
+use filing::entries::{HEAD, read_head};
 use filing::names::good_name;
 use filing::pages::{PAGE, PIECE, turn};
 use layout::Desc;
@@ -34,7 +34,8 @@ fn mark_entry(piece: &[u8], n: usize, marks: &mut [u8]) -> Option<usize>
     Some(head.length)
 }
 
-// Marks the streams that the entries lead to, up to the first entry that is not in order.
+// Marks the streams that the entries lead to, up to the first entry that is not in order. No `for`: only an entry's bytes tell
+// where the next one starts.
 fn mark_entries(card: &[u8], s: Cut, t: Desc, n: usize, marks: &mut [u8]) -> bool
     ensures { (result ≡ both (tidy_from (bytes_of card.now s t) 0) (mark_ok n marks.old (indices (entries (bytes_of card.now s t))))) × (result ≡ true → marks.new ≡ mark_set n marks.old (indices (entries (bytes_of card.now s t)))) }
 {

@@ -9,9 +9,10 @@ use layout::{Desc, Shape};
 use pyramids::pyramid::up;
 use stream::descs::descriptor;
 
-// Where the table's descriptors start, and how long each is.
+// Where the table's descriptors start.
 pub const START: usize = 8;
 
+// The bytes of a descriptor.
 pub const LENGTH: usize = 25;
 
 // Descriptor `k`, by the table's bytes.

@@ -10,7 +10,6 @@ slice_bounds-name-end c = omega (arith, entry_fits _ _ _ c.requires.0 _ c.requir
 pub met-requires : goal.met-requires
 met-requires c = let x_low = x_le _ _ _ c.requires.0 _ c.requires.2 _ c.requires.1 _ c.read_head-n.ensures.1 _ refl _ _ c.bucket-h.ensures.0 c.bucket-h.ensures.1 refl in (
   name-short _ _ _ c.requires.0 _ c.requires.2 _ c.requires.1 _ c.read_head-n.ensures.1 _ refl,
-  omega (arith, x_low, c.requires.0.few),
   omega (arith, x_low, c.requires.0.inside),
   c.requires.2.long,
   x_linked _ _ _ c.requires.0 _ c.requires.2 _ c.requires.1 _ c.read_head-n.ensures.1 _ refl _ _ c.bucket-h.ensures.0 c.bucket-h.ensures.1 refl,
