@@ -78,13 +78,14 @@ pub fn create_wants(card: &[u8], s: Cut, k: usize, name: &[u8]) -> usize
     requires { (k < 2 ^ 56) × (length name.now ≤ 64) × ((table card.now s).size < 2 ^ 61) × ((stream card.now s k).size < 2 ^ 61) }
     ensures { result ≡ create_wants_in card.now s k name.now }
 {
+    let shape = s.shape();
     let d = stream(card, s, k);
-    let more = wants(s.shape(), d, d.size + 6 + name.len());
+    let more = wants(shape, d, d.size + 6 + name.len());
     if table_number(card, s, 0) != END8 {
         return more;
     }
     let t = table(card, s);
-    wants(s.shape(), t, t.size + LENGTH) + more
+    wants(shape, t, t.size + LENGTH) + more
 }
 
 // A new stream, and its entry at the end of directory `k`.

@@ -6,7 +6,7 @@ use Rattle.usage.proofs.Chained.{chain_begun, chain-ends, chain_out, chain-turn,
 use Rattle.usage.proofs.free.mark_chain.Goals as goal
 
 pub loop-found-init : goal.loop-found-init
-loop-found-init c = chain_begun _ _ _ _ _ (omega (arith, ap (λ s. s.count) c.s.view_is)) c.first_free-b.ensures
+loop-found-init c = chain_begun _ _ _ _ _ (omega (arith, ap (λ s. s.count) c.s.view_is)) (rw c.shape.ensures.0 at c.first_free-b.ensures)
 
 pub returns-then-b : goal.returns-then-b
 returns-then-b c = chain-ends _ _ _ _ _ _ _ c.loop-found.invariant c.if-b.true
