@@ -10,7 +10,7 @@ use Rattle.layout.specs.Streams.{stream}
 use Rattle.layout.specs.Filing.{good_name, look_in}
 use Rattle.layout.specs.Header.{shape_of, shift_of}
 use Rattle.layout.specs.Sound.{rule1, rule2, rule3, rule4, rule5, rule6, rule7, rule8, broken}
-use Rattle.layout.specs.Ranges.{Small}
+use Rattle.blocks.specs.Narrow.{Narrow}
 use Rattle.layout.specs.Calls.{root_of, known, entry_of, index_of, undescribed}
 use Rattle.laws.proofs.Lists.{In}
 use Rattle.laws.proofs.Tests.{is_ltb}
@@ -19,7 +19,7 @@ use Rattle.laws.proofs.Soundness.{sound}
 use Rattle.laws.proofs.Entries.{look_name}
 use Rattle.laws.proofs.Directories.{good_short}
 use Rattle.acts.specs.Fits.{Fits}
-use Rattle.acts.proofs.Fitting.{fits, live-low, small}
+use Rattle.acts.proofs.Fitting.{fits, live-low, narrow}
 use Rattle.acts.proofs.Sound.{root_live, index_live, entry-low, size_low as pulled-low}
 use Rattle.layout.specs.declared.Shape.{Shape}
 use Rattle.layout.specs.declared.Desc.{Desc}
@@ -41,6 +41,9 @@ rule-low c r e = omega (arith, e, eight c)
 pub shift_fits : (c : List ℕ) → 0 ≡ broken c → shift_of c ≤ 12
 shift_fits c z = (sound c (sym z)).core.headed.most
 
+pub shape_fits : (c : List ℕ) (s : Shape) → 0 ≡ broken c → s ≡ shape_of c → Narrow s
+shape_fits c s z e = rw e (narrow c (sound c (sym z)).core)
+
 pub name_fits : (name : List ℕ) (q : Bool) → q ≡ good_name name → q ≡ true → length name ≤ 64
 name_fits name q e t = good_short name (rw (← e, t) tt)
 
@@ -57,8 +60,8 @@ module _ {c : List ℕ} {s : Shape} (p : Passed c s) where
   pub core : Core c s
   core = subst (λ (t : Shape). Core c t) (sym p.cut) whole.core
 
-  pub small_of : Small c s
-  small_of = rw p.cut (small c whole.core)
+  pub narrow_of : Narrow s
+  narrow_of = rw p.cut (narrow c whole.core)
 
   pub fits_of : Fits c s
   fits_of = fits c s core
@@ -98,10 +101,6 @@ module _ {c name : List ℕ} {s : Shape} {k at : ℕ} (n : Named c name s k at) 
 
   pub index-low : k < 2 ^ 56
   index-low = (live-low c s (core n.passed) k live_of).0
-
-  -- what an act asks of every stream
-  pub asked : Small c s × (k < 2 ^ 56)
-  asked = (small_of n.passed, index-low)
 
   pub size_low : (stream c s k).size < 2 ^ 61
   size_low = (live-low c s (core n.passed) k live_of).1

@@ -1,6 +1,7 @@
 -- `front::examine` keeps its promise.
 use Rattle.std.proofs.lemmas.Result.{err_from_is_err_and}
-use Rattle.front.proofs.Passing.{shift_fits}
+use mathlib.Core.Path.{◌∙◌}
+use Rattle.front.proofs.Passing.{shift_fits, shape_fits}
 use Rattle.front.proofs.Fronted.{examined_damaged, examined_sound}
 use Rattle.front.proofs.examine.Goals as goal
 
@@ -10,5 +11,8 @@ returns-in_err-free c = let p = err_from_is_err_and c.from_residual.result c.fro
 pub shape-requires : goal.shape-requires
 shape-requires c = shift_fits _ c.in_ok-free.ensures.0
 
+pub of-requires : goal.of-requires
+of-requires c = shape_fits _ _ c.in_ok-free.ensures.0 c.shape.ensures
+
 pub returns : goal.returns
-returns c = examined_sound _ c.in_ok-free.ensures.0 _ c.shape.ensures _ c.in_ok-free.ensures.1
+returns c = examined_sound _ c.in_ok-free.ensures.0 _ (c.of.ensures ∙ c.shape.ensures) _ c.in_ok-free.ensures.1

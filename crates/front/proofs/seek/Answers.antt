@@ -1,6 +1,6 @@
 -- `front::seek` keeps its promise.
 use Rattle.std.proofs.lemmas.Result.{err_from_is_err_and}
-use Rattle.front.proofs.Passing.{small_of, root-low, name_fits}
+use Rattle.front.proofs.Passing.{root-low, name_fits}
 use Rattle.front.proofs.Fronted.{sound_of, sought_damaged, sought_bad, sought-done}
 use borrow.Author.Rules.{rules}
 use Rattle.front.proofs.seek.Goals as goal
@@ -13,7 +13,7 @@ returns-then-not-good_name c = sought_bad _ _ _ (sound_of _ c.in_ok-shape.ensure
 
 pub look_up-found-requires : goal.look_up-found-requires
 look_up-found-requires c = let p = sound_of _ c.in_ok-shape.ensures in
-    (small_of p, search rules, name_fits _ _ c.good_name.ensures c.if-not-good_name.false, root-low p)
+    (search rules, name_fits _ _ c.good_name.ensures c.if-not-good_name.false, root-low p)
 
 pub returns : goal.returns
 returns c = sought-done _ _ _ (sound_of _ c.in_ok-shape.ensures) _ c.good_name.ensures c.if-not-good_name.false _ c.look_up-found.ensures
