@@ -11,7 +11,6 @@ use Rattle.layout.specs.Limits.{least_shift, most_shift, most_blocks}
 use Rattle.layout.specs.Bytes.{num, end8}
 use Rattle.layout.specs.Streams.{table, table_bytes, first_desc, desc_chain, stream}
 use Rattle.layout.specs.Header.{head_length, shaped, shape_of, shift_of, good_shape}
-use Rattle.layout.specs.Ranges.{Small}
 use Rattle.laws.proofs.Tests.{is_both, is_leb, is_eqb}
 use Rattle.laws.proofs.Lists.{In}
 use Rattle.laws.proofs.Links.{Links}
@@ -37,14 +36,13 @@ shaped-narrow c shift l m n = record {
 }
 
 -- what format asks for, where the shape is good
-pub new_small : (c : List ℕ) (shift : ℕ) → T (good_shape (length c) shift) → Small c (shaped (length c) shift) × (shift < 256)
+pub new_narrow : (c : List ℕ) (shift : ℕ) → T (good_shape (length c) shift) → Narrow (shaped (length c) shift) × (shift < 256)
 unfolding good_shape
-new_small c shift t =
+new_narrow c shift t =
     let n = length c - head_length in
     let z = 2 ^ shift in
     let r = (is_both (is_both (is_leb least_shift shift) (is_leb shift most_shift)) (is_both (is_leb head_length (length c)) (is_both (is_eqb (n % z) 0) (is_both (is_leb 1 (n / z)) (is_leb (n / z) most_blocks))))).out t in
-    let w = shaped-narrow c shift r.0.0 r.0.1 r.1.1.1.1 in
-    (record { base = w.base; least = w.least; most = w.most; count = w.count; first = w.first; table = w.table; whole = omega (arith, r.1.0, r.1.1.0, div-add-mod' n z, mul-le-mul r.1.1.1.1 w.most) }, omega (arith, r.0.1))
+    (shaped-narrow c shift r.0.0 r.0.1 r.1.1.1.1, omega (arith, r.0.1))
 
 -- ---- numbers that fit
 

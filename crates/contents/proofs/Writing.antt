@@ -15,7 +15,7 @@ use Rattle.layout.specs.Answers.{refused, counted}
 use Rattle.layout.specs.Calls.{index_of, size_after_in, written_in, written, write}
 use Rattle.acts.proofs.Refusing.{enough_is, too_long}
 use Rattle.front.proofs.Outcomes.{pass, stop, none}
-use Rattle.front.proofs.Passing.{Named, core, small_of, live_of}
+use Rattle.front.proofs.Passing.{Named, core, narrow_of, live_of}
 use Rattle.contents.proofs.Named.{past_end}
 use Rattle.layout.specs.declared.Shape.{Shape}
 use Rattle.layout.specs.declared.Desc.{Desc}
@@ -34,7 +34,7 @@ module _ {c name : List ℕ} {s : Shape} {k at : ℕ} (n : Named c name s k at) 
   -- more bytes than any card has
   pub write-long : 2 ^ 32 < length vs → refused 7 0 c [] ≡ write c name p vs
   write-long l =
-      let r = small_of n.passed in
+      let r = narrow_of n.passed in
       let m : s.count * s.size ≤ 4096 * 4096 = mul-le-mul {n₁ = s.count} {n₂ = 4096} r.count r.most in
       let d = too_long c s (core n.passed) k (live_of n) (max t.size (p + length vs)) (omega arith) in
       no_room_lem (lt-ltb (length (chain c (shape_of c))) wanted (rw (← wanted_is, ← n.passed.cut, a) (rw (a) at d)))

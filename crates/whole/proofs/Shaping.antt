@@ -10,9 +10,9 @@ use Rattle.layout.specs.Bytes.{both}
 use Rattle.layout.specs.Header.{head_length, shaped, good_rest, good_shape}
 use Rattle.layout.specs.Answers.{refused, done}
 use Rattle.layout.specs.Calls.{formatted_in, formatted, format}
-use Rattle.layout.specs.Ranges.{Small}
+use Rattle.blocks.specs.Narrow.{Narrow}
 use Rattle.laws.proofs.Tests.{is_both, is_leb, is_itself}
-use Rattle.acts.proofs.Fitting.{new_small}
+use Rattle.acts.proofs.Fitting.{new_narrow}
 use Rattle.layout.specs.declared.Shape.{Shape}
 
 module _ (c : List ℕ) (shift : ℕ) (q : Bool) (e : q ≡ good_shape (length c) shift) where
@@ -24,8 +24,8 @@ module _ (c : List ℕ) (shift : ℕ) (q : Bool) (e : q ≡ good_shape (length c
     good : T (good_shape (length c) shift)
     good = rw (← e, f) tt
 
-    pub new_fits : (s : Shape) → s ≡ shaped (length c) shift → Small c s × (shift < 256)
-    new_fits s g = rw g (new_small c shift good)
+    pub new_fits : (s : Shape) → s ≡ shaped (length c) shift → Narrow s × (shift < 256)
+    new_fits s g = rw g (new_narrow c shift good)
 
     pub shift_fits : shift ≤ 12
     unfolding good_shape

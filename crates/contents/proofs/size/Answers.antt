@@ -2,7 +2,7 @@
 use Rattle.std.proofs.lemmas.Result.{err_from_is_err_and}
 use Rattle.layout.specs.Promises.{Sizes}
 use Rattle.layout.specs.Calls.{size}
-use Rattle.front.proofs.Passing.{asked}
+use Rattle.front.proofs.Passing.{index-low}
 use Rattle.front.proofs.Fronted.{refused-first, refused_unknown, known_of}
 use Rattle.contents.proofs.Named.{size-done}
 use Rattle.contents.proofs.size.Goals as goal
@@ -16,7 +16,7 @@ unfolding Sizes size
 returns-in_default c = refused_unknown _ _ _ _ _ c.in_ok-shape.ensures c.in_default.is
 
 pub size-requires : goal.size-requires
-size-requires c = asked (known_of _ _ c.in_ok-shape.ensures c.in-Some.is)
+size-requires c = index-low (known_of _ _ c.in_ok-shape.ensures c.in-Some.is)
 
 pub returns : goal.returns
 unfolding Sizes

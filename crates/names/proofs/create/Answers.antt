@@ -4,7 +4,7 @@ use borrow.Author.Rules.{rules}
 use Rattle.std.proofs.lemmas.Result.{err_from_is_err_and}
 use Rattle.layout.specs.Promises.{Creates}
 use Rattle.layout.specs.Calls.{create}
-use Rattle.front.proofs.Passing.{small_of, root_lower, fits_of, name_fits}
+use Rattle.front.proofs.Passing.{root_lower, fits_of, name_fits}
 use Rattle.front.proofs.Fronted.{refused-first, refused-known, fresh_of}
 use Rattle.names.proofs.Creating.{create-full, create_cramped, create-done}
 use Rattle.names.proofs.create.Goals as goal
@@ -17,19 +17,13 @@ pub returns-then-is_some : goal.returns-then-is_some
 unfolding Creates create
 returns-then-is_some c = refused-known _ _ _ _ _ c.in_ok-shape.ensures (sym c.is_some.ensures ∙ c.if-is_some.true)
 
-pub full-requires : goal.full-requires
-full-requires c = small_of (fresh_of _ _ c.in_ok-shape.ensures (sym c.is_some.ensures ∙ c.if-is_some.false)).passed
-
 pub returns-then-full : goal.returns-then-full
 unfolding Creates
 returns-then-full c = create-full (fresh_of _ _ c.in_ok-shape.ensures (sym c.is_some.ensures ∙ c.if-is_some.false)) _ c.full.ensures c.if-full.true
 
 pub create_wants-requires : goal.create_wants-requires
 create_wants-requires c = let n = fresh_of _ _ c.in_ok-shape.ensures (sym c.is_some.ensures ∙ c.if-is_some.false) in
-    (small_of n.passed, search rules, name_fits _ _ refl n.good, (fits_of n.passed).size_of_table, root_lower n.passed)
-
-pub enough-requires : goal.enough-requires
-enough-requires c = small_of (fresh_of _ _ c.in_ok-shape.ensures (sym c.is_some.ensures ∙ c.if-is_some.false)).passed
+    (search rules, name_fits _ _ refl n.good, (fits_of n.passed).size_of_table, root_lower n.passed)
 
 pub returns-then-not-enough : goal.returns-then-not-enough
 unfolding Creates
@@ -37,7 +31,7 @@ returns-then-not-enough c = create_cramped (fresh_of _ _ c.in_ok-shape.ensures (
 
 pub create-requires : goal.create-requires
 create-requires c = let n = fresh_of _ _ c.in_ok-shape.ensures (sym c.is_some.ensures ∙ c.if-is_some.false) in
-    (small_of n.passed, fits_of n.passed, search rules, name_fits _ _ refl n.good, root_lower n.passed)
+    (fits_of n.passed, search rules, name_fits _ _ refl n.good, root_lower n.passed)
 
 pub returns : goal.returns
 unfolding Creates

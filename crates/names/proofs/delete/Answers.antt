@@ -3,7 +3,7 @@ use borrow.Author.Rules.{rules}
 use Rattle.std.proofs.lemmas.Result.{err_from_is_err_and}
 use Rattle.layout.specs.Promises.{Deletes}
 use Rattle.layout.specs.Calls.{delete}
-use Rattle.front.proofs.Passing.{small_of, index-low, entry_fits, pull_fits}
+use Rattle.front.proofs.Passing.{index-low, entry_fits, pull_fits}
 use Rattle.front.proofs.Fronted.{refused-first, refused_unknown, known_of}
 use Rattle.names.proofs.Deleting.{delete-done}
 use Rattle.names.proofs.delete.Goals as goal
@@ -18,7 +18,7 @@ returns-in_default c = refused_unknown _ _ _ _ _ c.in_ok-shape.ensures c.in_defa
 
 pub delete-requires : goal.delete-requires
 delete-requires c = let n = known_of _ _ c.in_ok-shape.ensures c.in-Some.is in
-    (small_of n.passed, search rules, index-low n, entry_fits n, pull_fits n)
+    (search rules, index-low n, entry_fits n, pull_fits n)
 
 pub returns : goal.returns
 unfolding Deletes

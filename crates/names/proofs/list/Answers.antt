@@ -6,7 +6,7 @@ use Rattle.std.proofs.lemmas.Result.{err_from_is_err_and}
 use Rattle.layout.specs.Promises.{Lists}
 use Rattle.layout.specs.Calls.{list}
 use Rattle.acts.proofs.Naming.{row_is}
-use Rattle.front.proofs.Passing.{small_of, root-low, root-size}
+use Rattle.front.proofs.Passing.{root-low, root-size}
 use Rattle.front.proofs.Fronted.{refused-damaged, sound_of, lost}
 use Rattle.names.proofs.Listing.{list-missing, list_none, list-short, row_low, list_done}
 use Rattle.names.proofs.list.Goals as goal
@@ -15,11 +15,8 @@ pub returns-in_err-shape : goal.returns-in_err-shape
 unfolding Lists list
 returns-in_err-shape c = let p = err_from_is_err_and c.from_residual.result c.from_residual.ensures.1 in rw (p.1, p.2) (refused-damaged _ c.in_err-shape.ensures _ _ _)
 
-pub stream-root-requires : goal.stream-root-requires
-stream-root-requires c = (small_of (sound_of _ c.in_ok-shape.ensures), search rules)
-
 pub nth_entry-requires : goal.nth_entry-requires
-nth_entry-requires c = let p = sound_of _ c.in_ok-shape.ensures in (small_of p, root-size p _ c.stream-root.ensures)
+nth_entry-requires c = let p = sound_of _ c.in_ok-shape.ensures in root-size p _ c.stream-root.ensures
 
 pub returns-in_err-ok_or : goal.returns-in_err-ok_or
 unfolding Lists
@@ -35,7 +32,7 @@ returns-then-tray-longest_name c =
     list-short (sound_of _ c.in_ok-shape.ensures) _ _ _ w (omega (arith, c.if-tray-longest_name.true, c.longest_name.ensures))
 
 pub list-requires : goal.list-requires
-list-requires c = let p = sound_of _ c.in_ok-shape.ensures in (small_of p, search rules, root-low p)
+list-requires c = let p = sound_of _ c.in_ok-shape.ensures in (search rules, root-low p)
 
 pub returns-in_err-row : goal.returns-in_err-row
 unfolding Lists
@@ -45,7 +42,7 @@ returns-in_err-row c =
     rw (p.1, p.2, z.1) (list_none (sound_of _ c.in_ok-shape.ensures) _ _ _ (sym z.0 ∙ c.list.ensures.0) c.list.ensures.1)
 
 pub size-requires : goal.size-requires
-size-requires c = let p = sound_of _ c.in_ok-shape.ensures in (small_of p, row_low p _ c.args.tray.now _ (sym c.in_ok-row.ensures.ok_part ∙ c.list.ensures.0))
+size-requires c = let p = sound_of _ c.in_ok-shape.ensures in row_low p _ c.args.tray.now _ (sym c.in_ok-row.ensures.ok_part ∙ c.list.ensures.0)
 
 pub returns : goal.returns
 unfolding Lists
