@@ -49,7 +49,11 @@ pub fn write(card: &mut [u8], name: &[u8], place: usize, given: &[u8]) -> Result
     if MOST_GIVEN < n {
         return Err(Refusal::NoRoom);
     }
-    if !enough(&*card, shape, wants(shape.shape(), t, t.size.max(place + n))) {
+    if !enough(
+        &*card,
+        shape,
+        wants(shape.shape(), t, t.size.max(place + n)),
+    ) {
         return Err(Refusal::NoRoom);
     }
     holding::write::write(card, shape, entry.index, place, given);

@@ -1,5 +1,5 @@
 -- `formatting::format::put_front` keeps its promise.
-use Rattle.std.proofs.Common.{ap, arith}
+use Rattle.std.proofs.Common.{ap}
 use Rattle.formatting.proofs.Formatting.{front_put}
 use Rattle.formatting.proofs.format.put_front.Goals as goal
 

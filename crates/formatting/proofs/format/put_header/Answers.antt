@@ -1,5 +1,5 @@
 -- `formatting::format::put_header` keeps its promise.
-use Rattle.std.proofs.Common.{ap, arith}
+use Rattle.std.proofs.Common.{ap}
 use Rattle.formatting.proofs.Formatting.{header_put}
 use Rattle.formatting.proofs.format.put_header.Goals as goal
 
