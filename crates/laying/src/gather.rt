@@ -7,17 +7,17 @@ ghost use Rattle.laying.specs.Gathered.{gathered};
 
 use crate::levels::levels;
 use blocks::cut::Cut;
-use blocks::places::{fan, slot, start};
+use blocks::places::{fan, slot, spot};
 use blocks::reader::node;
 use layout::Desc;
 use memory::runs::fetch;
 
 // `n` bytes of block `b` from its byte `r` on go to `tray` from `at` on.
 fn gather_block(card: &[u8], s: Cut, b: usize, r: usize, tray: &mut [u8], at: usize, n: usize)
-    requires { at + n ≤ length tray.old }
+    requires { (r ≤ 4096) × (at + n ≤ length tray.old) }
     ensures { tray.new ≡ over tray.old at (window card.now (place s b + r) n) }
 {
-    fetch(tray, at, &*card, start(s, b).saturating_add(r), n);
+    fetch(tray, at, &*card, spot(s, b, r), n);
 }
 
 // `n` bytes go to `tray` from `at` on, out of the blocks that `block` names by their numbers, from byte `r` of block `i` on.

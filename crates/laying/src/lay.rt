@@ -6,16 +6,17 @@ ghost use Rattle.layout.specs.Streams.{data_of, tall, laid_row, laid};
 
 use crate::levels::levels;
 use blocks::cut::Cut;
-use blocks::places::{fan, slot, start};
+use blocks::places::{fan, slot, spot};
 use blocks::reader::node;
 use layout::Desc;
 use memory::runs::copy;
 
 // `n` bytes of `given` from `from` on go into block `b` from its byte `r` on.
 fn lay_block(card: &mut [u8], s: Cut, b: usize, r: usize, given: &[u8], from: usize, n: usize)
+    requires { r < 2 ^ 62 }
     ensures { card.new ≡ over card.old (place s b + r) (take n (drop from given.now)) }
 {
-    copy(card, start(s, b).saturating_add(r), &*given, from, n);
+    copy(card, spot(s, b, r), &*given, from, n);
 }
 
 // `n` bytes of `given` from `from` on go into the blocks that the slots of block `b` name, from byte `r` of slot `i`'s block on.
