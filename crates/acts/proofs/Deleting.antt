@@ -7,7 +7,7 @@ use Rattle.layout.specs.Bytes.{num, bytes, over, put, end8}
 use Rattle.layout.specs.Streams.{table_bytes, in_table, shortened}
 use Rattle.layout.specs.Calls.{undescribed}
 use Rattle.laws.proofs.ByteLaws.{length-bytes, over-append}
-use Rattle.stream.proofs.Fields.{over-whole}
+use Rattle.memory.proofs.Parts.{over-whole}
 use Rattle.layout.specs.declared.Shape.{Shape}
 
 two_numbers : (page page₁ page₂ : List ℕ) (a b : ℕ) → page ≡ replicate 16 0 → page₁ ≡ put 8 page 0 a → page₂ ≡ put 8 page₁ 8 b → page₂ ≡ bytes 8 a ++ bytes 8 b

@@ -20,6 +20,7 @@ fn undescribe(card: &mut [u8], s: Cut, j: usize, marks: &mut [u8])
 {
     let first = table_number(card, s, 0);
     shorten(card, s, j, 0, marks);
+    // L65: the first two fields of the free form.
     let mut page = [0; 16];
     put_number(&mut page, 0, 8, first);
     put_number(&mut page, 8, 8, END8);

@@ -17,6 +17,7 @@ pub fn list(card: &[u8], s: Cut, k: usize, n: usize, tray: &mut [u8]) -> Option<
 {
     let t = stream(card, s, k);
     let row = nth_entry(card, s, t, n)?;
-    gather_stream(card, s, t, row.at + 6, tray, 0, row.length);
+    let n = row.length.min(tray.len());
+    gather_stream(card, s, t, row.at + 6, &mut tray[..n]);
     Some(row)
 }

@@ -8,18 +8,53 @@ ghost use Rattle.layout.specs.Blocks.{node, first_free, enough, taken, grown, su
 ghost use Rattle.layout.specs.Streams.{contents, laid};
 ghost use Rattle.layout.specs.Sound.{broken};
 ghost use Rattle.layout.specs.Ranges.{Small};
+ghost use Rattle.blocks.specs.Narrow.{Narrow};
 ghost use Rattle.blocks.specs.Plain.{plain_shape};
+ghost use Rattle.sound.specs.Lowest.{rule_in};
 ghost use Rattle.bench.specs.Cuts.{cut};
 
 use blocks::chain::{enough, take_block};
+use blocks::cut::Cut;
 use blocks::growth::grow;
 use blocks::reader::{node, reader};
 use laying::gather::gather_stream;
 use laying::lay::lay;
-use layout::{Desc, Shape};
+use layout::Desc;
+use layout::answers::Rule;
 use marking::marks::release;
 use memory::runs::{clear, copy, matches};
 use sound::check::{check, check_on};
+
+// The bytes of a table of 256 descriptors.
+const LONGEST_TABLE: usize = 6408;
+
+// Sixteen times the marks that a card can need.
+const WIDE_MARKS: usize = 65536;
+
+// A card's shape, as far as these layers go by it.
+fn cut_of(base: usize, size: usize, count: usize, first: usize) -> Cut
+    requires { Narrow (cut base size count first) }
+    ensures { result ≡ cut base size count first }
+{
+    Cut {
+        base,
+        size,
+        count,
+        first,
+        table: 0,
+        filing: 0,
+    }
+}
+
+// The number of the lowest broken rule, 0 where there is none.
+fn rule_told(verdict: Result<usize, Rule>) -> usize
+    ensures { result ≡ rule_in verdict }
+{
+    match verdict {
+        Ok(_) => 0,
+        Err(rule) => rule.number(),
+    }
+}
 
 #[unsafe(no_mangle)]
 pub extern "C" fn bench_clear(card: &mut [u8], at: usize, n: usize)
@@ -72,14 +107,7 @@ pub extern "C" fn bench_node(
     requires { Small card.now (cut base size count first) }
     ensures { result ≡ node card.now (cut base size count first) top e j }
 {
-    let s = Shape {
-        base: base,
-        size: size,
-        count: count,
-        first: first,
-        table: 0,
-        filing: 0,
-    };
+    let s = cut_of(base, size, count, first);
     node(card, s, top, e, j)
 }
 
@@ -95,14 +123,7 @@ pub extern "C" fn bench_enough(
     requires { Small card.now (cut base size count first) }
     ensures { result ≡ enough card.now (cut base size count first) n }
 {
-    let s = Shape {
-        base: base,
-        size: size,
-        count: count,
-        first: first,
-        table: 0,
-        filing: 0,
-    };
+    let s = cut_of(base, size, count, first);
     enough(card, s, n)
 }
 
@@ -117,14 +138,7 @@ pub extern "C" fn bench_take_block(
     requires { Small card.old (cut base size count first) }
     ensures { (result ≡ first_free card.old (cut base size count first)) × (card.new ≡ taken card.old (cut base size count first)) }
 {
-    let s = Shape {
-        base: base,
-        size: size,
-        count: count,
-        first: first,
-        table: 0,
-        filing: 0,
-    };
+    let s = cut_of(base, size, count, first);
     take_block(card, s)
 }
 
@@ -142,14 +156,7 @@ pub extern "C" fn bench_grow(
     requires { Small card.old (cut base size count first) × (d < 2 ^ 61) × (m < 2 ^ 61) }
     ensures { (result ≡ (grown card.old (cut base size count first) top d m).top) × (card.new ≡ (grown card.old (cut base size count first) top d m).card) }
 {
-    let s = Shape {
-        base: base,
-        size: size,
-        count: count,
-        first: first,
-        table: 0,
-        filing: 0,
-    };
+    let s = cut_of(base, size, count, first);
     grow(card, s, top, d, m)
 }
 
@@ -168,14 +175,7 @@ pub extern "C" fn bench_release(
     requires { Small card.old (cut base size count first) × (d < 2 ^ 62) × (d2 < 2 ^ 62) × (count ≤ length marks.old) }
     ensures { card.new ≡ released card.old (cut base size count first) (surplus card.old (cut base size count first) top d d2) }
 {
-    let s = Shape {
-        base: base,
-        size: size,
-        count: count,
-        first: first,
-        table: 0,
-        filing: 0,
-    };
+    let s = cut_of(base, size, count, first);
     release(card, s, top, d, d2, marks);
 }
 
@@ -196,21 +196,15 @@ pub extern "C" fn bench_gather(
     requires { Small card.now (cut base size count first) }
     ensures { tray.new ≡ over tray.old 0 (take n (drop p (contents card.now (cut base size count first) top (reserved / size) bytes))) }
 {
-    let s = Shape {
-        base: base,
-        size: size,
-        count: count,
-        first: first,
-        table: 0,
-        filing: 0,
-    };
+    let s = cut_of(base, size, count, first);
     let t = Desc {
         size: bytes,
-        top: top,
-        reserved: reserved,
+        top,
+        reserved,
         flags: 0,
     };
-    gather_stream(&*card, s, t, p, tray, 0, n);
+    let m = n.min(tray.len());
+    gather_stream(&*card, s, t, p, &mut tray[..m]);
 }
 
 #[unsafe(no_mangle)]
@@ -229,23 +223,15 @@ pub extern "C" fn bench_lay(
     requires { Small card.old (cut base size count first) × (p < 2 ^ 62) × (n < 2 ^ 62) × (n ≤ length given.now) }
     ensures { card.new ≡ laid card.old (cut base size count first) top h p (take n (drop 0 given.now)) }
 {
-    let s = Shape {
-        base: base,
-        size: size,
-        count: count,
-        first: first,
-        table: 0,
-        filing: 0,
-    };
-    lay(card, s, top, h, p, &*given, 0, n);
+    let s = cut_of(base, size, count, first);
+    lay(card, s, top, h, p, &given[..n]);
 }
 
 #[unsafe(no_mangle)]
 pub extern "C" fn bench_check(card: &[u8]) -> usize
     ensures { result ≡ broken card.now }
 {
-    let v = check(card);
-    v.rule
+    rule_told(check(card))
 }
 
 // The same with 65,536 marks, for the test of the stack.
@@ -253,8 +239,7 @@ pub extern "C" fn bench_check(card: &[u8]) -> usize
 pub extern "C" fn bench_check_wide(card: &[u8]) -> usize
     ensures { result ≡ broken card.now }
 {
-    let mut tab = [0; 6408];
-    let mut marks = [0; 65536];
-    let v = check_on(card, &mut tab, &mut marks);
-    v.rule
+    let mut tab = [0; LONGEST_TABLE];
+    let mut marks = [0; WIDE_MARKS];
+    rule_told(check_on(card, &mut tab, &mut marks))
 }

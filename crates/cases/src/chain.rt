@@ -18,10 +18,8 @@ pub enum Chain {
     // The last block leads back to one of the chain; a block leads to itself.
     Twice,
     Itself,
-    // A data block of the long stream at the end, at the head, or for the second block.
-    UsedAtEnd,
-    UsedAtHead,
-    UsedForFree,
+    // A data block of the long stream is on the chain.
+    Used(Place),
     // The last block leads to the long stream's top, or to a block of an owner.
     Redirector,
     BlockOf(Owner),
@@ -36,6 +34,13 @@ pub enum Chain {
     BlockOfNobody,
 }
 
+pub enum Place {
+    End,
+    Head,
+    // That of the second block.
+    Second,
+}
+
 pub const CHAIN: [(&str, Chain); 19] = [
     ("first-block-out-of-range", Chain::FirstOut),
     ("full-first-block-wrong", Chain::FullFirst),
@@ -43,9 +48,9 @@ pub const CHAIN: [(&str, Chain); 19] = [
     ("next-link-out-of-range", Chain::NextLinkOut),
     ("block-met-twice", Chain::Twice),
     ("next-is-itself", Chain::Itself),
-    ("used-block-at-the-end", Chain::UsedAtEnd),
-    ("used-block-at-the-head", Chain::UsedAtHead),
-    ("used-for-free", Chain::UsedForFree),
+    ("used-block-at-the-end", Chain::Used(Place::End)),
+    ("used-block-at-the-head", Chain::Used(Place::Head)),
+    ("used-for-free", Chain::Used(Place::Second)),
     ("redirector-on-chain", Chain::Redirector),
     ("table-on-chain", Chain::BlockOf(Owner::Table)),
     ("root-on-chain", Chain::BlockOf(Owner::Root)),
@@ -117,7 +122,6 @@ fn any_data(card: &mut Card) -> Option<u16> {
 // The long stream gives up its last data block.
 fn data_let_go(card: &mut Card) -> Option<()> {
     let stream = card.plan.streams.of(LONG)?;
-    let desc = stream.desc;
     let (_, left) = stream.data_blocks()?.split_last()?;
     let only = match left {
         [b] => Some(*b),
@@ -126,10 +130,10 @@ fn data_let_go(card: &mut Card) -> Option<()> {
     let v = left
         .len()
         .checked_mul(usize::from(card.image.block.bytes()))? as u64;
-    card.put_part(desc, Part::Size, v)?;
-    card.put_part(desc, Part::Reserved, v)?;
+    card.put_part(LONG, Part::Size, v)?;
+    card.put_part(LONG, Part::Reserved, v)?;
     if let Some(top) = only {
-        card.put_part(desc, Part::Top, u64::from(top))?;
+        card.put_part(LONG, Part::Top, u64::from(top))?;
     }
     Some(())
 }
@@ -141,22 +145,22 @@ fn longer(card: &mut Card) -> Option<()> {
     Some(())
 }
 
-// A data block of the long stream on the chain.
-fn used_on_chain(card: &mut Card, place: &Chain) -> Option<()> {
+// A data block of the long stream, drawn, is on the chain.
+fn used_on_chain(card: &mut Card, place: &Place) -> Option<()> {
     let b = any_data(card)?;
     let first = free(card, 0)?;
     match place {
-        Chain::UsedAtEnd => {
+        Place::End => {
             put_after_last(card, b)?;
             card.image.put_link(b, NO_BLOCK)
         }
-        Chain::UsedAtHead => {
+        Place::Head => {
             put_head(card, b)?;
             put_next(card, b, first)
         }
-        _ => {
-            put_next(card, first, b)?;
+        Place::Second => {
             let third = free(card, 2)?;
+            put_next(card, first, b)?;
             put_next(card, b, third)
         }
     }
@@ -192,7 +196,7 @@ impl Damage for Chain {
                 let b = any_free(card)?;
                 put_next(card, b, b)
             }
-            Chain::UsedAtEnd | Chain::UsedAtHead | Chain::UsedForFree => used_on_chain(card, self),
+            Chain::Used(place) => used_on_chain(card, place),
             Chain::Redirector => {
                 let top = card.plan.streams.of(LONG)?.top();
                 put_after_last(card, top)
@@ -212,10 +216,7 @@ impl Damage for Chain {
                 let third = free(card, 2)?;
                 put_next(card, first, third)
             }
-            Chain::StreamLetGo => {
-                let desc = card.desc(LONG)?;
-                card.put_desc(desc, 0, 0, 0)
-            }
+            Chain::StreamLetGo => card.put_desc(LONG, 0, 0, 0),
             Chain::DataLetGo => data_let_go(card),
             Chain::BlockOfNobody => longer(card),
         }

@@ -71,12 +71,12 @@ fn spare_offset(plan: &Plan, j: usize) -> Option<u32> {
 
 // What a spare leads to.
 fn put_next(card: &mut Card, spare: u16, next: u64) -> Option<()> {
-    card.put_part(Desc::Table(spare), Part::Size, next)
+    card.put_spare(spare, Part::Size, next)
 }
 
-// The first offset leads to a descriptor.
-fn put_first(card: &mut Card, desc: Desc) -> Option<()> {
-    match desc {
+// The first offset leads to the descriptor of an owner.
+fn put_first(card: &mut Card, owner: Owner) -> Option<()> {
+    match card.desc(owner)? {
         Desc::Header => None,
         Desc::Table(k) => card.put_first_offset(u64::from(offset(k))),
     }
@@ -116,16 +116,14 @@ fn none_free(card: &mut Card) -> Option<()> {
 // A named stream in free form, off the chain.
 fn free_off_chain(card: &mut Card) -> Option<()> {
     let e = card.plan.draws.below(card.plan.streams.named.len()) as usize;
-    let desc = card.desc(Owner::Named(e))?;
-    card.put_desc(desc, NO_OFFSET, NO_OFFSET, 0)
+    card.put_desc(Owner::Named(e), NO_OFFSET, NO_OFFSET, 0)
 }
 
 // The root in free form, on the chain.
 fn free_root(card: &mut Card) -> Option<()> {
-    let desc = card.desc(Owner::Root)?;
     let next = spare_offset(&card.plan, 0)?;
-    card.put_desc(desc, u64::from(next), NO_OFFSET, 0)?;
-    put_first(card, desc)
+    card.put_desc(Owner::Root, u64::from(next), NO_OFFSET, 0)?;
+    put_first(card, Owner::Root)
 }
 
 impl Damage for Descriptors {
@@ -157,10 +155,7 @@ impl Damage for Descriptors {
                 let v = wrong_offset(card, 1)?;
                 put_next(card, first, v)
             }
-            Descriptors::Live(_) => {
-                let desc = card.desc(SHORT)?;
-                put_first(card, desc)
-            }
+            Descriptors::Live(_) => put_first(card, SHORT),
             Descriptors::Twice => {
                 let last = *card.plan.spares.last()?;
                 let k = any_spare(card)?;

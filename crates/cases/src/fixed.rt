@@ -41,7 +41,7 @@ const ADDED: [Value; 4] = [
 impl Damage for Fixed {
     // The turn goes through the bytes of the field, and then through what is added.
     fn damage(&self, card: &mut Card) -> Option<()> {
-        let turn = card.plan.draws.turn();
+        let turn = card.plan.draws.turn;
         let at = self.at.checked_add(turn.checked_rem(self.width)?)?;
         let added = card
             .plan

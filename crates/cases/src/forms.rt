@@ -1,6 +1,6 @@
 // Rule 5 broken: the forms of descriptors.
 use samples::card::Card;
-use samples::owners::{Desc, EMPTY, LONG, Owner};
+use samples::owners::{EMPTY, LONG, Owner};
 use samples::parts::Part;
 use samples::wrong::{FF4, FF8, TWO_32, TWO_63};
 
@@ -30,52 +30,28 @@ fn any_live(card: &mut Card, n: usize) -> Owner {
     Owner::live(card.plan.draws.below(n))
 }
 
-// Flags, the descriptor being drawn before.
-fn put_flags(card: &mut Card, desc: Desc) -> Option<()> {
-    let v = card.plan.draws.wrong_flags()?;
-    card.put_part(desc, Part::Flags, v)
-}
-
 // Reserved of the root or of the first named stream.
 fn put_reserved(card: &mut Card) -> Option<()> {
     let owner = any_live(card, 2);
     let block = card.image.block;
-    let stream = card.plan.streams.of(owner)?;
-    let desc = stream.desc;
-    let right = stream.reserved(block);
+    let right = card.plan.streams.of(owner)?.reserved(block);
     let v = card.plan.draws.wrong_reserved(right, block.bytes())?;
-    card.put_part(desc, Part::Reserved, v)
+    card.put_part(owner, Part::Reserved, v)
 }
 
 // Reserved by a block more than the card has, and a size that fills the last of these or begins it.
 fn above_count(card: &mut Card) -> Option<()> {
     let owner = any_live(card, 2);
-    let desc = card.desc(owner)?;
     let z = u64::from(card.image.block.bytes());
     let v = (u64::from(card.count) + 1) * z;
     let size = card.plan.draws.turn_of(&[v, v - (z - 1)])?;
-    card.put_part(desc, Part::Reserved, v)?;
-    card.put_part(desc, Part::Size, size)
+    card.put_part(owner, Part::Reserved, v)?;
+    card.put_part(owner, Part::Size, size)
 }
 
-// The size of the long stream.
-fn put_size(card: &mut Card, above: bool) -> Option<()> {
-    let z = u32::from(card.image.block.bytes());
-    let stream = card.plan.streams.of(LONG)?;
-    let desc = stream.desc;
-    let right = stream.reserved(card.image.block);
-    let v = if above {
-        right.checked_add(1)?
-    } else {
-        right.checked_sub(z)?
-    };
-    card.put_part(desc, Part::Size, u64::from(v))
-}
-
-// A field of the empty stream.
-fn put_empty(card: &mut Card, part: Part, v: u64) -> Option<()> {
-    let desc = card.desc(EMPTY)?;
-    card.put_part(desc, part, v)
+// Reserved of the long stream.
+fn long_reserved(card: &Card) -> Option<u32> {
+    Some(card.plan.streams.of(LONG)?.reserved(card.image.block))
 }
 
 impl Form {
@@ -86,32 +62,39 @@ impl Form {
             Form::FreeReserved => {
                 let k = any_spare(card)?;
                 let v = card.plan.draws.not_zero(z)?;
-                card.put_part(Desc::Table(k), Part::Reserved, v)
+                card.put_spare(k, Part::Reserved, v)
             }
             Form::FreeFlags => {
                 let k = any_spare(card)?;
-                put_flags(card, Desc::Table(k))
+                let v = card.plan.draws.wrong_flags()?;
+                card.put_spare(k, Part::Flags, v)
             }
             Form::LiveFlags => {
                 let others = card.plan.streams.named.len();
                 let owner = any_live(card, 1 + others);
-                let desc = card.desc(owner)?;
-                put_flags(card, desc)
+                let v = card.plan.draws.wrong_flags()?;
+                card.put_part(owner, Part::Flags, v)
             }
             Form::LiveReserved => put_reserved(card),
             Form::EmptyReserved => {
                 let v = draws.not_zero(z)?;
-                put_empty(card, Part::Reserved, v)
+                card.put_part(EMPTY, Part::Reserved, v)
             }
-            Form::SizeAbove => put_size(card, true),
-            Form::SizeBelow => put_size(card, false),
+            Form::SizeAbove => {
+                let v = u64::from(long_reserved(card)?) + 1;
+                card.put_part(LONG, Part::Size, v)
+            }
+            Form::SizeBelow => {
+                let v = long_reserved(card)?.checked_sub(u32::from(z))?;
+                card.put_part(LONG, Part::Size, u64::from(v))
+            }
             Form::SizeNearEnd => {
                 let less = draws.below(usize::from(z) - 1);
-                put_empty(card, Part::Size, FF8 - u64::from(less))
+                card.put_part(EMPTY, Part::Size, FF8 - u64::from(less))
             }
             Form::EmptyTop => {
                 let v = draws.turn_of(&[1, FF4, TWO_32, TWO_63, FF8 - 1])?;
-                put_empty(card, Part::Top, v)
+                card.put_part(EMPTY, Part::Top, v)
             }
             Form::AboveCount => above_count(card),
         }

@@ -50,7 +50,7 @@ impl Index {
         match self {
             Index::OfFree => Some(u32::from(plan.draws.one_of(&plan.spares)?)),
             Index::Beyond => plan.draws.wrong_index(right, plan.descriptors),
-            _ => Some(0),
+            Index::Twice | Index::Zero => Some(0),
         }
     }
 

@@ -19,12 +19,14 @@ ghost use Rattle.std.specs.Prelude.{◌<◌, ◌≤◌, length};
 
 use damage::Damage;
 use dice::sums::sum;
+use layout::answers::Rule;
 use samples::card::Card;
+use samples::draft::Draft;
 use samples::draws::Draws;
 use samples::fault::Fault;
 use samples::kinds::Kind;
-use samples::plan::Plan;
 use samples::sizes::BlockSize;
+use sound::check::check;
 use std::alloc::Global;
 
 // How many cards are made of a kind, and how many of a clause.
@@ -32,9 +34,15 @@ const OF_KIND: usize = 70;
 
 const OF_CLAUSE: usize = 21;
 
-// The number of the lowest rule that a card breaks; 0 where it is sound.
+// What stands for a sound card in place of a rule's number.
+const SOUND: usize = 0;
+
+// The number of the lowest rule that a card breaks.
 fn broken(card: &[u8]) -> usize {
-    sound::check::check(card).rule
+    match check(card) {
+        Ok(_) => SOUND,
+        Err(rule) => rule.number(),
+    }
 }
 
 // The block size of a card.
@@ -46,7 +54,7 @@ fn block_of<D: Damage>(damage: &D, kind: Kind, draws: &Draws) -> Option<BlockSiz
 fn damaged<D: Damage>(alloc: Global, damage: &D, draws: Draws) -> Result<Card, Fault> {
     let kind = damage.kind(&draws).ok_or(Fault::NoSuchPart)?;
     let block = block_of(damage, kind, &draws).ok_or(Fault::NoSuchPart)?;
-    let mut plan = Plan::drawn(alloc, draws, kind, block)?;
+    let mut plan = Draft { draws, kind, block }.plan(alloc)?;
     damage.change(&mut plan).ok_or(Fault::NoSuchPart)?;
     let mut card = Card::new(alloc, plan)?;
     damage.damage(&mut card).ok_or(Fault::NoSuchPart)?;
@@ -88,13 +96,49 @@ fn write_rule<D: Damage>(
 
 fn main(rt: HostRuntime) -> anyhow::Result<()> {
     let alloc = rt.alloc();
-    write_rule(&rt, alloc, 0, &undamaged::KINDS, OF_KIND)?;
-    write_rule(&rt, alloc, 1, &lengths::SHORT, OF_CLAUSE)?;
-    write_rule(&rt, alloc, 2, &fixed::FIXED, OF_CLAUSE)?;
-    write_rule(&rt, alloc, 3, &lengths::MISFITS, OF_CLAUSE)?;
-    write_rule(&rt, alloc, 4, &own::OWN, OF_CLAUSE)?;
-    write_rule(&rt, alloc, 5, &descriptors::DESCRIPTORS, OF_CLAUSE)?;
-    write_rule(&rt, alloc, 6, &stream_pyramids::PYRAMIDS, OF_CLAUSE)?;
-    write_rule(&rt, alloc, 7, &chain::CHAIN, OF_CLAUSE)?;
-    write_rule(&rt, alloc, 8, &root::ROOT, OF_CLAUSE)
+    write_rule(&rt, alloc, SOUND, &undamaged::KINDS, OF_KIND)?;
+    write_rule(
+        &rt,
+        alloc,
+        Rule::Length.number(),
+        &lengths::SHORT,
+        OF_CLAUSE,
+    )?;
+    write_rule(
+        &rt,
+        alloc,
+        Rule::FixedValues.number(),
+        &fixed::FIXED,
+        OF_CLAUSE,
+    )?;
+    write_rule(
+        &rt,
+        alloc,
+        Rule::Blocks.number(),
+        &lengths::MISFITS,
+        OF_CLAUSE,
+    )?;
+    write_rule(&rt, alloc, Rule::Table.number(), &own::OWN, OF_CLAUSE)?;
+    write_rule(
+        &rt,
+        alloc,
+        Rule::Descriptors.number(),
+        &descriptors::DESCRIPTORS,
+        OF_CLAUSE,
+    )?;
+    write_rule(
+        &rt,
+        alloc,
+        Rule::Pyramids.number(),
+        &stream_pyramids::PYRAMIDS,
+        OF_CLAUSE,
+    )?;
+    write_rule(
+        &rt,
+        alloc,
+        Rule::FreeChain.number(),
+        &chain::CHAIN,
+        OF_CLAUSE,
+    )?;
+    write_rule(&rt, alloc, Rule::Root.number(), &root::ROOT, OF_CLAUSE)
 }

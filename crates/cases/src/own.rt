@@ -4,7 +4,7 @@ use crate::slots::Slot;
 use samples::card::Card;
 use samples::draws::{Draws, Span, Value};
 use samples::kinds::Kind;
-use samples::owners::{Desc, Owner};
+use samples::owners::Owner;
 use samples::parts::Part;
 use samples::plan::{BEFORE_DESCRIPTORS, DESCRIPTOR, offset};
 use samples::wrong::{TWO_32, TWO_63};
@@ -57,27 +57,35 @@ pub const OWN: [(&str, Own); 18] = [
 // The rows of the table's pyramid that deep damage goes to.
 const DEEP_ROWS: usize = 2;
 
-// The size and reserved fields.
-fn put_sized(card: &mut Card, size: u64, reserved: u64) -> Option<()> {
-    card.put_part(Desc::Header, Part::Size, size)?;
-    card.put_part(Desc::Header, Part::Reserved, reserved)
+// A field of the table's descriptor.
+fn put_own(card: &mut Card, part: Part, v: u64) -> Option<()> {
+    card.put_part(Owner::Table, part, v)
+}
+
+// Its size and reserved.
+fn put_sized(card: &mut Card, size: u32, reserved: u32) -> Option<()> {
+    put_own(card, Part::Size, u64::from(size))?;
+    put_own(card, Part::Reserved, u64::from(reserved))
 }
 
 // A size below 8, with a block but for size 0.
 fn put_tiny(card: &mut Card) -> Option<()> {
     let size = card.plan.draws.turn_of(&[0, 1, 2, 3, 4, 5, 6, 7])?;
-    let z = card.image.block.bytes();
-    put_sized(card, size, if size == 0 { 0 } else { u64::from(z) })
+    let z = u32::from(card.image.block.bytes());
+    put_sized(card, size, if size == 0 { 0 } else { z })
 }
 
-// The largest table whose data blocks are so many more than the card has, and at least a descriptor for the last of them.
-fn put_huge(card: &mut Card, more: u8) -> Option<()> {
-    let z = u64::from(card.image.block.bytes());
-    let count = u64::from(card.count);
-    let more = u64::from(more);
-    let n = (z * count).checked_sub(u64::from(BEFORE_DESCRIPTORS))? / u64::from(DESCRIPTOR) + more;
-    let size = u64::from(BEFORE_DESCRIPTORS) + u64::from(DESCRIPTOR) * n;
-    put_sized(card, size, z * (count + more))
+// The descriptors of the largest table whose contents fit in so many bytes.
+fn largest_table(bytes: u32) -> Option<u16> {
+    u16::try_from(bytes.checked_sub(BEFORE_DESCRIPTORS)? / DESCRIPTOR).ok()
+}
+
+// A table whose contents have all the card's blocks, or a descriptor and a block more.
+fn put_huge(card: &mut Card, more: u16) -> Option<()> {
+    let z = u32::from(card.image.block.bytes());
+    let n = largest_table(u32::from(card.count) * z)?.checked_add(more)?;
+    let blocks = card.count.checked_add(more)?;
+    put_sized(card, offset(n), u32::from(blocks) * z)
 }
 
 impl Damage for Own {
@@ -101,33 +109,41 @@ impl Damage for Own {
     }
 
     fn damage(&self, card: &mut Card) -> Option<()> {
-        let block = card.image.block;
-        let size = u64::from(card.plan.streams.table.size);
-        let draws = &mut card.plan.draws;
-        let (part, v) = match self {
+        let table = &card.plan.streams.table;
+        let size = u64::from(table.size);
+        let z = card.image.block.bytes();
+        match self {
             Own::Larger(values) | Own::Between(values) => {
-                (Part::Size, size.checked_add(draws.value_of(values)?)?)
+                let more = card.plan.draws.value_of(values)?;
+                put_own(card, Part::Size, size.checked_add(more)?)
             }
-            Own::OneLess => (Part::Size, size.checked_sub(1)?),
+            Own::OneLess => put_own(card, Part::Size, size.checked_sub(1)?),
             Own::Of(values) | Own::OfMore(values) => {
-                let n = u16::try_from(draws.value_of(values)?).ok()?;
-                (Part::Size, u64::from(offset(n)))
+                let n = card.plan.draws.value_of(values)?;
+                let size = offset(u16::try_from(n).ok()?);
+                put_own(card, Part::Size, u64::from(size))
             }
-            Own::OfNone => return put_sized(card, u64::from(offset(0)), u64::from(block.bytes())),
-            Own::Tiny => return put_tiny(card),
-            Own::Flags => (Part::Flags, draws.wrong_flags()?),
+            Own::OfNone => put_sized(card, offset(0), u32::from(z)),
+            Own::Tiny => put_tiny(card),
+            Own::Flags => {
+                let v = card.plan.draws.wrong_flags()?;
+                put_own(card, Part::Flags, v)
+            }
             Own::Reserved => {
-                let right = card.plan.streams.table.reserved(block);
-                (Part::Reserved, draws.wrong_reserved(right, block.bytes())?)
+                let right = table.reserved(card.image.block);
+                let v = card.plan.draws.wrong_reserved(right, z)?;
+                put_own(card, Part::Reserved, v)
             }
-            Own::AboveCount => return put_huge(card, 1),
-            Own::PyramidAboveCount => return put_huge(card, 0),
+            Own::AboveCount => put_huge(card, 1),
+            Own::PyramidAboveCount => put_huge(card, 0),
             Own::Top => {
-                let right = card.plan.streams.table.top();
-                (Part::Top, draws.wrong_block_or_none(right, card.count)?)
+                let v = card
+                    .plan
+                    .draws
+                    .wrong_block_or_none(table.top(), card.count)?;
+                put_own(card, Part::Top, v)
             }
-            Own::Slot(slot) => return slot.damage(card, Owner::Table, DEEP_ROWS),
-        };
-        card.put_part(Desc::Header, part, v)
+            Own::Slot(slot) => slot.damage(card, Owner::Table, DEEP_ROWS),
+        }
     }
 }

@@ -6,12 +6,13 @@ use samples::draws::{Span, Value};
 use samples::entries::Entry;
 use samples::image::Field;
 use samples::kinds::Kind;
+use samples::owners::Owner;
 use samples::parts::Part;
 use samples::plan::Plan;
 
 pub enum Root {
-    // The last name is longer than the root has bytes for: by so much.
-    LastLonger(&'static [Value]),
+    // The last name is longer than the root has bytes for.
+    LastLonger,
     LastLongest,
     // Bytes are left behind the last name.
     LastShorter,
@@ -32,7 +33,7 @@ pub enum Root {
 }
 
 pub const ROOT: [(&str, Root); 20] = [
-    ("last-name-cut", Root::LastLonger(&[Value::Drawn(1, 5)])),
+    ("last-name-cut", Root::LastLonger),
     ("last-name-far-too-long", Root::LastLongest),
     ("bytes-left", Root::LastShorter),
     ("root-cut", Root::Cut),
@@ -77,11 +78,11 @@ fn put_last_length(card: &mut Card, entry: Entry, v: u64) -> Option<()> {
     card.put_in_root(entry.length_field()?, v)
 }
 
-// The last name's length is wrong by a few bytes, or by many.
-fn last_longer(card: &mut Card, values: &[Value]) -> Option<()> {
+// The last name's length is more by a few bytes, more by many, or less.
+fn last_longer(card: &mut Card) -> Option<()> {
     let entry = last_entry(&card.plan)?;
-    let by = card.plan.draws.value_of(values)?;
-    put_last_length(card, entry, by.checked_add(u64::from(entry.length))?)
+    let n = u64::from(entry.length) + u64::from(card.plan.draws.one_in(FEW));
+    put_last_length(card, entry, n)
 }
 
 fn last_longest(card: &mut Card) -> Option<()> {
@@ -94,24 +95,13 @@ fn last_longest(card: &mut Card) -> Option<()> {
 fn last_shorter(card: &mut Card) -> Option<()> {
     let entry = last_entry(&card.plan)?;
     let by = card.plan.draws.one_in(FEW);
-    put_last_length(
-        card,
-        entry,
-        u64::from(u32::from(entry.length).checked_sub(by)?),
-    )
+    let n = u32::from(entry.length).checked_sub(by)?;
+    put_last_length(card, entry, u64::from(n))
 }
 
-// The root's size is wrong by a few bytes.
-fn put_root_size(card: &mut Card, larger: bool) -> Option<()> {
-    let by = card.plan.draws.one_in(FEW);
-    let root = &card.plan.streams.root;
-    let size = if larger {
-        root.size.checked_add(by)?
-    } else {
-        root.size.checked_sub(by)?
-    };
-    let desc = root.desc;
-    card.put_part(desc, Part::Size, u64::from(size))
+// The root's size on the card.
+fn put_root_size(card: &mut Card, size: u32) -> Option<()> {
+    card.put_part(Owner::Root, Part::Size, u64::from(size))
 }
 
 // A barred byte in a name: its first one, its last one or any.
@@ -191,11 +181,19 @@ impl Damage for Root {
 
     fn damage(&self, card: &mut Card) -> Option<()> {
         match self {
-            Root::LastLonger(values) => last_longer(card, values),
+            Root::LastLonger => last_longer(card),
             Root::LastLongest => last_longest(card),
             Root::LastShorter => last_shorter(card),
-            Root::Cut => put_root_size(card, false),
-            Root::TooLong => put_root_size(card, true),
+            Root::Cut => {
+                let by = card.plan.draws.one_in(FEW);
+                let size = card.plan.streams.root.size.checked_sub(by)?;
+                put_root_size(card, size)
+            }
+            Root::TooLong => {
+                let by = card.plan.draws.one_in(FEW);
+                let size = card.plan.streams.root.size.checked_add(by)?;
+                put_root_size(card, size)
+            }
             Root::Slash => slash(card),
             Root::Equal => same_name(card),
             _ => Some(()),

@@ -51,17 +51,15 @@ pub fn any_block(card: &mut Card, owner: Owner) -> Option<u16> {
 // A top that is no block of the card.
 fn top_out(card: &mut Card) -> Option<()> {
     let owner = Owner::live(card.plan.draws.below(3));
-    let stream = card.plan.streams.of(owner)?;
-    let desc = stream.desc;
-    let v = card.plan.draws.wrong_block(stream.top(), card.count)?;
-    card.put_part(desc, Part::Top, v)
+    let right = card.plan.streams.of(owner)?.top();
+    let v = card.plan.draws.wrong_block(right, card.count)?;
+    card.put_part(owner, Part::Top, v)
 }
 
 // The top of an owner is a block of another.
 fn top_shared(card: &mut Card, owner: Owner, other: Owner) -> Option<()> {
     let b = any_block(card, other)?;
-    let desc = card.desc(owner)?;
-    card.put_part(desc, Part::Top, u64::from(b))
+    card.put_part(owner, Part::Top, u64::from(b))
 }
 
 // A slot of the long stream names a block of the root.
@@ -72,10 +70,9 @@ fn slot_shared(card: &mut Card) -> Option<()> {
 }
 
 fn above_count(card: &mut Card) -> Option<()> {
-    let desc = card.desc(LONG)?;
     let v = u64::from(card.count) * u64::from(card.image.block.bytes());
-    card.put_part(desc, Part::Size, v)?;
-    card.put_part(desc, Part::Reserved, v)
+    card.put_part(LONG, Part::Size, v)?;
+    card.put_part(LONG, Part::Reserved, v)
 }
 
 impl Damage for Pyramids {

@@ -71,8 +71,9 @@ module _ (r : List ℕ) (at : ℕ) where
 pub page_blank : (r : List ℕ) (size : ℕ) → size ≡ length r → Paged (replicate page_size 0) size r
 page_blank r size e = record { long = length-replicate {A = ℕ} page_size 0; reads = λ i h k. absurd (omega arith) }
 
-pub page-gathered : (page page' r : List ℕ) (at : ℕ) → length page ≡ page_size → page' ≡ over page 0 (take page_size (drop at r)) → Turned page' at at r
-page-gathered page page' r at long e =
+pub page-gathered : (page page' r : List ℕ) (at : ℕ) → length page ≡ page_size → page' ≡ over page 0 (take (length page) (drop at r)) → Turned page' at at r
+page-gathered page page' r at long g =
+    let e = rw long at g in
     let vs = take page_size (drop at r) in
     let n = length-take page_size (drop at r) in
     let m = length-drop at r in

@@ -40,7 +40,7 @@ pub fn append(card: &mut [u8], s: Cut, k: usize, p: usize, index: usize, name: &
     let mut page = [0; LONGEST];
     put_entry(&mut page, index, name);
     lengthen(card, s, k, p + n);
-    lay_in_stream(card, s, k, p, &page, n);
+    lay_in_stream(card, s, k, p, &page[..n]);
 }
 
 // `n` bytes of the stream that `t` describes are read from place `q` on and laid from place `p` on.
@@ -49,8 +49,8 @@ fn pull_page(card: &mut [u8], s: Cut, t: Desc, p: usize, q: usize, n: usize)
     ensures { card.new ≡ moved card.old s t p q n }
 {
     let mut page = [0; MOVED];
-    gather_stream(card, s, t, q, &mut page, 0, n);
-    lay_stream(card, s, t, p, &page, 0, n);
+    gather_stream(card, s, t, q, &mut page[..n]);
+    lay_stream(card, s, t, p, &page[..n]);
 }
 
 // What the stream that `t` describes has from place `q` on is pulled forward to place `p`, page by page.

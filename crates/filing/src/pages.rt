@@ -25,7 +25,7 @@ pub fn turn(card: &[u8], s: Cut, t: Desc, page: &mut [u8], from: usize, at: usiz
     if from <= at && at - from <= PAGE - PIECE {
         return from;
     }
-    gather_stream(&*card, s, t, at, page, 0, PAGE);
+    gather_stream(&*card, s, t, at, page);
     at
 }
 
@@ -35,7 +35,7 @@ pub fn name_at(card: &[u8], s: Cut, t: Desc, at: usize, name: &[u8]) -> bool
     ensures { result ≡ same (entry_at (contents card.now s t.top (data_of s t) t.size) at).name name.now }
 {
     let mut piece = [0; PIECE];
-    gather_stream(&*card, s, t, at, &mut piece, 0, PIECE);
+    gather_stream(&*card, s, t, at, &mut piece);
     let e = PIECE.min(t.size.saturating_sub(at));
     name_is(&piece[0..e], &*name)
 }

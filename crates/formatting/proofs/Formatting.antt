@@ -4,23 +4,15 @@ use mathlib.Core.List.{List, [], ◌∷◌, ◌++◌}
 use Prim.Native.Nat.{ℕ, suc, ◌+◌, ◌-◌, ◌<◌}
 use native.Mathlib.Nat.{zero-add, mod-eq_of_lt}
 use native.Mathlib.Omega.{arith}
-use lib.ListN.{length, replicate, length-append, length-replicate}
+use lib.ListN.{length, replicate, length-append}
 use lib.Dec.{eqb}
-use borrow.Author.Tests.{eq-eqb, ne_eqb}
 use Rattle.layout.specs.Bytes.{pick, bytes, over, put, end4, end8}
 use Rattle.layout.specs.Blocks.{place, slot_place}
 use Rattle.layout.specs.Header.{head1, head2, head3, head4, new_header}
 use Rattle.layout.specs.Calls.{links_from, formatted_in}
 use Rattle.laws.proofs.ByteLaws.{length-bytes, over-append}
-use Rattle.stream.proofs.Fields.{over-whole}
 use Rattle.formatting.specs.Front.{new_front}
 use Rattle.layout.specs.declared.Shape.{Shape}
-
-pub pick_same : (a b x y : ℕ) → a ≡ b → x ≡ pick (eqb a b) x y
-pick_same a b x y e = rw (eq-eqb a b e)
-
-pub pick_other : (a b x y : ℕ) → (a ≡ b → ⊥) → y ≡ pick (eqb a b) x y
-pick_other a b x y e = rw (ne_eqb a b e)
 
 -- ---- the header
 
@@ -72,9 +64,7 @@ module _ (s : Shape) where
 
 -- ---- the whole card
 
-pub all_new : (c c₁ c₂ c₃ c₄ : List ℕ) (s : Shape) (shift n p : ℕ) → n ≡ length c → c₁ ≡ over c 0 (replicate n 0) → c₂ ≡ over c₁ 0 (new_header shift s) → c₃ ≡ links_from (s.count - 1) 1 s c₂
+pub all_new : (c c₁ c₂ c₃ c₄ : List ℕ) (s : Shape) (shift p : ℕ) → c₁ ≡ replicate (length c) 0 → c₂ ≡ over c₁ 0 (new_header shift s) → c₃ ≡ links_from (s.count - 1) 1 s c₂
     → p ≡ place s 0 → c₄ ≡ put 8 c₃ p end8 → c₄ ≡ formatted_in (length c) shift s
 unfolding put
-all_new c c₁ c₂ c₃ c₄ s shift n p e f g h u v =
-    let blank : over c 0 (replicate n 0) ≡ replicate n 0 = over-whole c (replicate n 0) (length-replicate n 0 ∙ e) in
-    v ∙ rw (u, h, g, f, blank, e)
+all_new c c₁ c₂ c₃ c₄ s shift p f g h u v = v ∙ rw (u, h, g, f)

@@ -1,53 +1,35 @@
 // A new card: zeros, the header, the chain from block 1 on, and in block 0 a table with the root's descriptor.
 ghost use Rattle.std.specs.Prelude.{◌≡◌, ◌+◌, ◌-◌, ◌<◌, length, eqb};
 ghost use Rattle.layout.specs.Bytes.{pick, over, end4, end8};
-ghost use Rattle.layout.specs.Header.{head1, head2, head3, head4, new_header};
+ghost use Rattle.layout.specs.Header.{new_header};
 ghost use Rattle.layout.specs.Calls.{links_from, formatted_in};
 ghost use Rattle.layout.specs.Ranges.{Small};
 ghost use Rattle.formatting.specs.Front.{new_front};
 
+use blocks::chain::{END4, END8};
 use blocks::places::{place, put_slot};
-use heading::fixed::{FIRST, FOURTH, SECOND, THIRD};
+use heading::fixed::{
+    FILING, FIRST, FIRST_FREE, FOURTH, INDEX_WIDTH, SECOND, SHIFT, STREAM, TABLE, THIRD,
+};
 use layout::Shape;
 use memory::bytes::put_number;
-use memory::runs::{clear, copy};
+use memory::runs::copy;
 
-// The fixed values before the shift: what the layers are, and their versions.
-fn put_first(card: &mut [u8])
-    ensures { card.new ≡ over card.old 0 head1 }
-{
-    copy(card, 0, &FIRST, 0, 25);
-}
+// L120: the bytes of a table with one descriptor.
+const NEW_TABLE: usize = 33;
 
-// The fixed value between the shift and the first-free field.
-fn put_second(card: &mut [u8])
-    ensures { card.new ≡ over card.old 26 head2 }
+// Fixed values, laid at their place.
+fn put_fixed(card: &mut [u8], at: usize, values: &[u8])
+    ensures { card.new ≡ over card.old at values.now }
 {
-    copy(card, 26, &SECOND, 0, 1);
-}
-
-// The fixed values after the first-free field.
-fn put_third(card: &mut [u8])
-    ensures { card.new ≡ over card.old 35 head3 }
-{
-    copy(card, 35, &THIRD, 0, 10);
-}
-
-// The fixed values after the table's descriptor.
-fn put_fourth(card: &mut [u8])
-    ensures { card.new ≡ over card.old 70 head4 }
-{
-    copy(card, 70, &FOURTH, 0, 17);
+    copy(card, at, values, 0, values.len());
 }
 
 // The first free block of a new card.
 fn first_block(count: usize) -> usize
     ensures { result ≡ pick (eqb count 1) end8 1 }
 {
-    if count == 1 {
-        return 0xffff_ffff_ffff_ffff;
-    }
-    1
+    if count == 1 { END8 } else { 1 }
 }
 
 // A new card's header up to the first-free field.
@@ -55,10 +37,10 @@ fn put_front(card: &mut [u8], s: Shape, shift: usize)
     requires { shift < 256 }
     ensures { card.new ≡ over card.old 0 (new_front shift s) }
 {
-    put_first(card);
-    put_number(card, 25, 1, shift);
-    put_second(card);
-    put_number(card, 27, 8, first_block(s.count));
+    put_fixed(card, 0, &FIRST);
+    put_number(card, SHIFT, 1, shift);
+    put_fixed(card, INDEX_WIDTH, &SECOND);
+    put_number(card, FIRST_FREE, 8, first_block(s.count));
 }
 
 // A new card's header.
@@ -66,14 +48,13 @@ fn put_header(card: &mut [u8], s: Shape, shift: usize)
     requires { shift < 256 }
     ensures { card.new ≡ over card.old 0 (new_header shift s) }
 {
-    let size = s.size;
     put_front(card, s, shift);
-    put_third(card);
-    put_number(card, 45, 8, 33);
-    put_number(card, 53, 8, 0);
-    put_number(card, 61, 8, size);
-    put_number(card, 69, 1, 0);
-    put_fourth(card);
+    put_fixed(card, STREAM, &THIRD);
+    put_number(card, TABLE, 8, NEW_TABLE);
+    put_number(card, TABLE + 8, 8, 0);
+    put_number(card, TABLE + 16, 8, s.size);
+    put_number(card, TABLE + 24, 1, 0);
+    put_fixed(card, FILING, &FOURTH);
 }
 
 // What block `b` of `count` names as the free block after it.
@@ -81,10 +62,7 @@ fn after_block(b: usize, count: usize) -> usize
     requires { b < count }
     ensures { result ≡ pick (eqb (b + 1) count) end4 (b + 1) }
 {
-    if b + 1 == count {
-        return 0xffff_ffff;
-    }
-    b + 1
+    if b + 1 == count { END4 } else { b + 1 }
 }
 
 // Each block from 1 on is linked to the one after it, the last to none.
@@ -92,11 +70,8 @@ fn link_blocks(card: &mut [u8], s: Shape)
     requires { Small card.old s }
     ensures { card.new ≡ links_from (s.count - 1) 1 s card.old }
 {
-    let count = s.count;
-    let mut b = 1;
-    while b < count {
-        put_slot(card, s, b, 0, after_block(b, count));
-        b += 1;
+    for b in 1..s.count {
+        put_slot(card, s, b, 0, after_block(b, s.count));
     }
 }
 
@@ -105,9 +80,8 @@ pub fn format(card: &mut [u8], s: Shape, shift: usize)
     requires { Small card.old s × (shift < 256) }
     ensures { card.new ≡ formatted_in (length card.old) shift s }
 {
-    let n = card.len();
-    clear(card, 0, n);
+    card.fill(0);
     put_header(card, s, shift);
     link_blocks(card, s);
-    put_number(card, place(s, 0), 8, 0xffff_ffff_ffff_ffff);
+    put_number(card, place(s, 0), 8, END8);
 }

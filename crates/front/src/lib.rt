@@ -11,6 +11,9 @@ use heading::header::shape;
 use layout::Shape;
 use layout::answers::Refusal;
 
+// L69: the index of the root's stream.
+pub const ROOT: usize = 0;
+
 // A card that passed the check: how it is cut, and how many blocks are free.
 #[derive(Clone, Copy)]
 pub struct Examined {
@@ -44,6 +47,6 @@ pub fn seek(card: &[u8], name: &[u8]) -> Result<Sought, Refusal>
     if !good_name(name) {
         return Err(Refusal::BadName);
     }
-    let found = look_up(card, shape, 0, name);
+    let found = look_up(card, shape, ROOT, name);
     Ok(Sought { shape, found })
 }

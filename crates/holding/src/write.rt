@@ -26,9 +26,8 @@ pub fn write(card: &mut [u8], s: Cut, k: usize, p: usize, given: &[u8])
     requires { (k < 2 ^ 56) × (p + length given.now < 2 ^ 62) }
     ensures { card.new ≡ written_in card.old s k p given.now }
 {
-    let n = given.len();
-    stretch(card, s, k, p + n);
-    lay_in_stream(card, s, k, p, given, n);
+    stretch(card, s, k, p + given.len());
+    lay_in_stream(card, s, k, p, given);
 }
 
 // Stream `k`'s first `n` bytes are kept.

@@ -1,6 +1,7 @@
 -- From an answer to the word: what card and tray hold does not matter to it.
 use mathlib.Core.Path.{◌≡◌, refl, ap, ◌∙◌}
 use mathlib.Core.List.{List, []}
+use Rattle.std.specs.Prelude.{Result, Ok, Err, ⊤}
 use Prim.Native.Nat.{ℕ, ◌^◌, ◌<◌}
 use Rattle.layout.specs.Answers.{Outcome, said_done, said_counted, said_sized, said_listed}
 use Rattle.layout.specs.Words.{word, Packed}
@@ -8,38 +9,32 @@ use Rattle.layout.specs.Calls.{format, check, room, create, write, read, truncat
 use Rattle.layout.specs.Promises.{Formats, Checks, Rooms, Creates, Writes, Reads, Truncates, Deletes, Sizes, Lists}
 use Rattle.lamporchid.proofs.Packing.{word_low}
 use Rattle.lamporchid.proofs.Bounds.{room_packed, size_packed, write_packed, read_packed, list_packed}
-use Rattle.layout.specs.declared.answers.Done.{Done}
-use Rattle.layout.specs.declared.answers.Done.TheVariants as done'
-use Rattle.layout.specs.declared.answers.Counted.{Counted}
-use Rattle.layout.specs.declared.answers.Counted.TheVariants as counted'
-use Rattle.layout.specs.declared.answers.Sized.{Sized}
-use Rattle.layout.specs.declared.answers.Sized.TheVariants as sized'
+use Rattle.layout.specs.declared.answers.Refusal.{Refusal}
 use Rattle.layout.specs.declared.answers.Listed.{Listed}
-use Rattle.layout.specs.declared.answers.Listed.TheVariants as listed'
 
 -- an outcome's word, and what it leaves, from an answer's
 abbrev Kept : Outcome → Outcome → List ℕ → List ℕ → Type 0
 Kept bare o c t = (word bare ≡ word o) × (c ≡ o.card) × (t ≡ o.tray)
 
-done-kept : (a : Done) (c t : List ℕ) → Kept (said_done a [] []) (said_done a c t) c t
+done-kept : (a : Result ⊤ Refusal) (c t : List ℕ) → Kept (said_done a [] []) (said_done a c t) c t
 unfolding word
-done-kept done'.Done c t = (refl, refl, refl)
-done-kept (done'.Refused r) c t = (refl, refl, refl)
+done-kept (Ok u) c t = (refl, refl, refl)
+done-kept (Err r) c t = (refl, refl, refl)
 
-counted-kept : (a : Counted) (c t : List ℕ) → Kept (said_counted a [] []) (said_counted a c t) c t
+counted-kept : (a : Result ℕ Refusal) (c t : List ℕ) → Kept (said_counted a [] []) (said_counted a c t) c t
 unfolding word
-counted-kept (counted'.Count n) c t = (refl, refl, refl)
-counted-kept (counted'.Refused r) c t = (refl, refl, refl)
+counted-kept (Ok n) c t = (refl, refl, refl)
+counted-kept (Err r) c t = (refl, refl, refl)
 
-sized-kept : (a : Sized) (c t : List ℕ) → Kept (said_sized a [] []) (said_sized a c t) c t
+sized-kept : (a : Result ℕ Refusal) (c t : List ℕ) → Kept (said_sized a [] []) (said_sized a c t) c t
 unfolding word
-sized-kept (sized'.Size n) c t = (refl, refl, refl)
-sized-kept (sized'.Refused r) c t = (refl, refl, refl)
+sized-kept (Ok n) c t = (refl, refl, refl)
+sized-kept (Err r) c t = (refl, refl, refl)
 
-listed_kept : (a : Listed) (c t : List ℕ) → Kept (said_listed a [] []) (said_listed a c t) c t
+listed_kept : (a : Result Listed Refusal) (c t : List ℕ) → Kept (said_listed a [] []) (said_listed a c t) c t
 unfolding word
-listed_kept (listed'.Entry len n) c t = (refl, refl, refl)
-listed_kept (listed'.Refused r) c t = (refl, refl, refl)
+listed_kept (Ok entry) c t = (refl, refl, refl)
+listed_kept (Err r) c t = (refl, refl, refl)
 
 module _ (bare said o : Outcome) (c t : List ℕ) (k : Kept bare said c t) (f : said ≡ o) where
   low : Packed o → word bare < 2 ^ 64
@@ -50,7 +45,7 @@ module _ (bare said o : Outcome) (c t : List ℕ) (k : Kept bare said c t) (f : 
 
 -- ---- call by call, from the promise of the store's call
 
-module _ (c c' : List ℕ) (a : Done) where
+module _ (c c' : List ℕ) (a : Result ⊤ Refusal) where
   pub format_told : (shift r : ℕ) → Formats c shift a c' → r ≡ word (said_done a [] []) → (r ≡ word (format c shift)) × (c' ≡ (format c shift).card)
   unfolding Formats
   format_told shift r f e = let t = told (said_done a [] []) (said_done a c' []) _ c' [] (done-kept a c' []) f r e in (t.0, t.1)
@@ -67,11 +62,11 @@ module _ (c c' : List ℕ) (a : Done) where
   unfolding Deletes
   delete_told name r f e = let t = told (said_done a [] []) (said_done a c' []) _ c' [] (done-kept a c' []) f r e in (t.0, t.1)
 
-pub check_told : (c : List ℕ) (a : Done) (r : ℕ) → Checks c a → r ≡ word (said_done a [] []) → r ≡ word (check c)
+pub check_told : (c : List ℕ) (a : Result ⊤ Refusal) (r : ℕ) → Checks c a → r ≡ word (said_done a [] []) → r ≡ word (check c)
 unfolding Checks
 check_told c a r f e = (told (said_done a [] []) (said_done a c []) _ c [] (done-kept a c []) f r e).0
 
-module _ (c : List ℕ) (a : Counted) (f : Rooms c a) where
+module _ (c : List ℕ) (a : Result ℕ Refusal) (f : Rooms c a) where
   pub room-low : word (said_counted a [] []) < 2 ^ 64
   unfolding Rooms
   room-low = low (said_counted a [] []) (said_counted a c []) _ c [] (counted-kept a c []) f (room_packed c)
@@ -80,7 +75,7 @@ module _ (c : List ℕ) (a : Counted) (f : Rooms c a) where
   unfolding Rooms
   room_told r e = (told (said_counted a [] []) (said_counted a c []) _ c [] (counted-kept a c []) f r e).0
 
-module _ (c name : List ℕ) (a : Sized) (f : Sizes c name a) where
+module _ (c name : List ℕ) (a : Result ℕ Refusal) (f : Sizes c name a) where
   pub size_low : word (said_sized a [] []) < 2 ^ 64
   unfolding Sizes
   size_low = low (said_sized a [] []) (said_sized a c []) _ c [] (sized-kept a c []) f (size_packed c name)
@@ -89,7 +84,7 @@ module _ (c name : List ℕ) (a : Sized) (f : Sizes c name a) where
   unfolding Sizes
   size_told r e = (told (said_sized a [] []) (said_sized a c []) _ c [] (sized-kept a c []) f r e).0
 
-module _ (c name : List ℕ) (p : ℕ) (vs : List ℕ) (a : Counted) (c' : List ℕ) (f : Writes c name p vs a c') where
+module _ (c name : List ℕ) (p : ℕ) (vs : List ℕ) (a : Result ℕ Refusal) (c' : List ℕ) (f : Writes c name p vs a c') where
   pub write_low : word (said_counted a [] []) < 2 ^ 64
   unfolding Writes
   write_low = low (said_counted a [] []) (said_counted a c' []) _ c' [] (counted-kept a c' []) f (write_packed c name p vs)
@@ -98,7 +93,7 @@ module _ (c name : List ℕ) (p : ℕ) (vs : List ℕ) (a : Counted) (c' : List 
   unfolding Writes
   write_told r e = let t = told (said_counted a [] []) (said_counted a c' []) _ c' [] (counted-kept a c' []) f r e in (t.0, t.1)
 
-module _ (c name : List ℕ) (p : ℕ) (tray : List ℕ) (a : Counted) (tray' : List ℕ) (f : Reads c name p tray a tray') where
+module _ (c name : List ℕ) (p : ℕ) (tray : List ℕ) (a : Result ℕ Refusal) (tray' : List ℕ) (f : Reads c name p tray a tray') where
   pub read_low : word (said_counted a [] []) < 2 ^ 64
   unfolding Reads
   read_low = low (said_counted a [] []) (said_counted a c tray') _ c tray' (counted-kept a c tray') f (read_packed c name p tray)
@@ -107,7 +102,7 @@ module _ (c name : List ℕ) (p : ℕ) (tray : List ℕ) (a : Counted) (tray' : 
   unfolding Reads
   read_told r e = let t = told (said_counted a [] []) (said_counted a c tray') _ c tray' (counted-kept a c tray') f r e in (t.0, t.2)
 
-module _ (c : List ℕ) (k : ℕ) (tray : List ℕ) (a : Listed) (tray' : List ℕ) (f : Lists c k tray a tray') where
+module _ (c : List ℕ) (k : ℕ) (tray : List ℕ) (a : Result Listed Refusal) (tray' : List ℕ) (f : Lists c k tray a tray') where
   pub list-low : word (said_listed a [] []) < 2 ^ 64
   unfolding Lists
   list-low = low (said_listed a [] []) (said_listed a c tray') _ c tray' (listed_kept a c tray') f (list_packed c k tray)

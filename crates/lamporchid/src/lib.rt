@@ -5,7 +5,7 @@ ghost use Rattle.std.specs.Prelude.{◌≡◌};
 ghost use Rattle.layout.specs.Calls.{format, check, room, create, write, read, truncate, delete, size, list};
 ghost use Rattle.layout.specs.Words.{word};
 
-use pack::{counted_word, done_word, listed_word, sized_word};
+use pack::{counted_word, done_word, listed_word};
 
 pub mod pack;
 
@@ -41,7 +41,7 @@ pub extern "C" fn lamporchid_create(card: &mut [u8], name: &[u8]) -> usize
 pub extern "C" fn lamporchid_size(card: &[u8], name: &[u8]) -> usize
     ensures { result ≡ word (size card.now name.now) }
 {
-    sized_word(contents::size(card, name))
+    counted_word(contents::size(card, name))
 }
 
 #[unsafe(no_mangle)]

@@ -5,13 +5,15 @@ use Prim.Native.Nat.{ℕ, zero, suc, ◌+◌, ◌-◌, ◌*◌, ◌/◌, ◌%◌
 use native.Mathlib.Nat.{add-zero, zero-add, add-mul, mod-lt, div-add-mod', mul-le-mul_right, min-eq_left}
 use native.Mathlib.Decide.{dec_le, dec_lt}
 use native.Mathlib.Omega.{arith}
-use lib.ListN.{length, get_or, take, drop, drop_of_length-le}
+use lib.ListN.{length, get_or, take, drop, drop_of_length-le, length-take, length-drop}
 use lib.Seq.{take_all, take_at, drop_at}
+use borrow.Rule.Slice.PartMut.{put_mid}
 use Rattle.layout.specs.Bytes.{over, window, run}
 use Rattle.layout.specs.Blocks.{fan, place, slot, node}
 use Rattle.layout.specs.Streams.{spot, tall, contents}
-use Rattle.laws.proofs.ByteLaws.{over-append, over-take}
+use Rattle.laws.proofs.ByteLaws.{over-append}
 use Rattle.laws.proofs.Windows.{window_past}
+use Rattle.memory.proofs.Parts.{over_mid, over-whole}
 use Rattle.laws.proofs.Levels.{div_is, mod_is}
 use Rattle.blocks.proofs.Near.{cap}
 use Rattle.laying.specs.Gathered.{gathered}
@@ -28,6 +30,13 @@ window-near c whole x m e n = elim (dec_lt x cap) [
   | yes k ↦ rw (e, min-eq_left {n = x} {m = cap} (omega arith))
   | no k ↦ window_past c m n (omega arith) ∙ sym (window_past c x n (omega arith))
 ]
+
+-- a part of a tray that a call filled
+pub filled : (l new : List ℕ) (a k m : ℕ) (f : ℕ → List ℕ) → ((n : ℕ) → length (f n) ≡ n) → k ≡ m → a + m ≤ length l → new ≡ f (length (take k (drop a l))) → put_mid a k l new ≡ over l a (f m)
+filled l new a k m f len e h g =
+    let n : length (take k (drop a l)) ≡ m = rw (length-take, length-drop) (omega arith) in
+    let new-is : new ≡ f m = rw n at g in
+    rw e (over_mid l new a m (ap length new-is ∙ len m) h ∙ ap (over l a) new-is)
 
 module _ (c : List ℕ) (s : Shape) (block : ℕ → ℕ) where
   pub length-gathered : (p n : ℕ) → length (gathered c s block p n) ≡ n
@@ -64,24 +73,28 @@ module _ (c : List ℕ) (s : Shape) (block : ℕ → ℕ) where
       let f : place s (block k) + r + 1 ≡ place s (block k) + (r + 1) = omega arith in
       rw (dv, md, e, f) (ap (λ (t : List ℕ). get_or c (place s (block k) + r) 0 ∷ t) (gathered-block k (r + 1) n (omega arith)))
 
+  -- a tray as long as what is gathered takes it all
+  pub gathered_whole : (tray : List ℕ) (p n left : ℕ) → n ≡ length tray → left ≡ n → over tray 0 (gathered c s block p left) ≡ gathered c s block p n
+  gathered_whole tray p n left e f = rw f (over-whole tray (gathered c s block p n) (length-gathered p n ∙ e))
+
   -- a piece is done, and the rest goes on behind it
-  pub piece_turn : (p p' m left to : ℕ) (tray tray₁ piece : List ℕ) → m ≤ left → gathered c s block p m ≡ piece → (m < left → p' ≡ p + m) → tray₁ ≡ over tray to piece
-      → over tray₁ (to + m) (gathered c s block p' (left - m)) ≡ over tray to (gathered c s block p left)
-  piece_turn p p' m left to tray tray₁ piece h e f g =
-      let t : left ≡ m + (left - m) = omega arith in
-      let rest : gathered c s block p' (left - m) ≡ gathered c s block (p + m) (left - m) = elim (dec_lt m left) [
+  pub piece_turn : (p p' m left left' to : ℕ) (tray tray₁ piece : List ℕ) → left ≡ m + left' → gathered c s block p m ≡ piece → (0 < left' → p' ≡ p + m) → tray₁ ≡ over tray to piece
+      → over tray₁ (to + m) (gathered c s block p' left') ≡ over tray to (gathered c s block p left)
+  piece_turn p p' m left left' to tray tray₁ piece t e f g =
+      let rest : gathered c s block p' left' ≡ gathered c s block (p + m) left' = elim (dec_lt 0 left') [
         | yes l ↦ rw (f l)
-        | no l ↦ gathered_none p' (left - m) (omega arith) ∙ sym (gathered_none (p + m) (left - m) (omega arith))
+        | no l ↦ gathered_none p' left' (omega arith) ∙ sym (gathered_none (p + m) left' (omega arith))
       ] in
-      let whole : gathered c s block p left ≡ piece ++ gathered c s block (p + m) (left - m) = ap (gathered c s block p) t ∙ gathered-append p m (left - m) ∙ rw e in
+      let whole : gathered c s block p left ≡ piece ++ gathered c s block (p + m) left' = ap (gathered c s block p) t ∙ gathered-append p m left' ∙ rw e in
       let n : length piece ≡ m = ap length (sym e) ∙ length-gathered p m in
       rw (g, rest, whole, over-append, n)
 
-  pub block-turn : (k r m left to b : ℕ) (tray tray₁ : List ℕ) → r < s.size → m ≡ min (s.size - r) left → b ≡ block k → tray₁ ≡ over tray to (window c (place s b + r) m)
-      → over tray₁ (to + m) (gathered c s block ((k + 1) * s.size + 0) (left - m)) ≡ over tray to (gathered c s block (k * s.size + r) left)
-  block-turn k r m left to b tray tray₁ low e a g =
+  pub block-turn : (k r m left left' to b : ℕ) (tray tray₁ : List ℕ) → r < s.size → m ≡ min (s.size - r) left → left ≡ m + left' → b ≡ block k
+      → tray₁ ≡ over tray to (window c (place s b + r) m)
+      → over tray₁ (to + m) (gathered c s block ((k + 1) * s.size + 0) left') ≡ over tray to (gathered c s block (k * s.size + r) left)
+  block-turn k r m left left' to b tray tray₁ low e t a g =
       let z : (k + 1) * s.size ≡ k * s.size + s.size = omega (arith, add-mul k 1 s.size) in
-      piece_turn (k * s.size + r) ((k + 1) * s.size + 0) m left to tray tray₁ _ (omega arith) (rw a (gathered-block k r m (omega arith))) (λ l. omega arith) g
+      piece_turn (k * s.size + r) ((k + 1) * s.size + 0) m left left' to tray tray₁ _ t (rw a (gathered-block k r m (omega arith))) (λ l. omega arith) g
 
 -- ---- one block, over and over
 
@@ -128,20 +141,20 @@ module _ (c : List ℕ) (s : Shape) (some : 0 < s.size) (top : ℕ) (h : ℕ) wh
       let e : p + 1 ≡ q * fan s * z + (x + 1) = omega arith in
       rw (dv, md, e, up_is, slot_is) (ap (λ (t : List ℕ). get_or c (place s (slot c s (node c s top h q) y) + x % z) 0 ∷ t) (below q (x + 1) m (omega arith)))
 
-  row-turn : (q i r m left to : ℕ) (tray tray₁ : List ℕ) → i < fan s → r < s.size → m ≡ min ((fan s - i) * s.size - r) left
+  row-turn : (q i r m left left' to : ℕ) (tray tray₁ : List ℕ) → i < fan s → r < s.size → m ≡ min ((fan s - i) * s.size - r) left → left ≡ m + left'
       → tray₁ ≡ over tray to (gathered c s (slot c s (node c s top h q)) (i * s.size + r) m)
-      → over tray₁ (to + m) (gathered c s (node c s top (suc h)) (((q + 1) * fan s + 0) * s.size + 0) (left - m))
+      → over tray₁ (to + m) (gathered c s (node c s top (suc h)) (((q + 1) * fan s + 0) * s.size + 0) left')
       ≡ over tray to (gathered c s (node c s top (suc h)) ((q * fan s + i) * s.size + r) left)
-  row-turn q i r m left to tray tray₁ low low' e g =
+  row-turn q i r m left left' to tray tray₁ low low' e t g =
       let z = s.size in
       let f = fan s in
-      let w : i * z + (f - i) * z ≡ f * z = let t : i + (f - i) ≡ f = omega arith in sym (add-mul i (f - i) z) ∙ ap (λ (x : ℕ). x * z) t in
+      let w : i * z + (f - i) * z ≡ f * z = let u : i + (f - i) ≡ f = omega arith in sym (add-mul i (f - i) z) ∙ ap (λ (x : ℕ). x * z) u in
       let a : (q * f + i) * z + r ≡ q * f * z + (i * z + r) = omega (arith, add-mul (q * f) i z) in
       let y : (q + 1) * f + 0 ≡ q * f + f = omega (arith, add-mul q 1 f) in
       let b : ((q + 1) * f + 0) * z ≡ q * f * z + f * z = ap (λ (t : ℕ). t * z) y ∙ add-mul (q * f) f z in
       let one : 1 * z ≤ (f - i) * z = mul-le-mul_right z (omega arith) in
       let piece = ap (λ (t : ℕ). gathered c s (node c s top (suc h)) t m) a ∙ below q (i * z + r) m (omega arith) in
-      piece_turn c s (node c s top (suc h)) ((q * f + i) * z + r) (((q + 1) * f + 0) * z + 0) m left to tray tray₁ _ (omega arith) piece (λ l. omega arith) g
+      piece_turn c s (node c s top (suc h)) ((q * f + i) * z + r) (((q + 1) * f + 0) * z + 0) m left left' to tray tray₁ _ t piece (λ l. omega arith) g
 
   rows_start : (p n : ℕ) → gathered c s (node c s top (suc h)) ((p / s.size / fan s * fan s + p / s.size % fan s) * s.size + p % s.size) n
       ≡ gathered c s (node c s top (suc h)) p n
@@ -150,14 +163,14 @@ module _ (c : List ℕ) (s : Shape) (some : 0 < s.size) (top : ℕ) (h : ℕ) wh
       ap (λ (t : ℕ). gathered c s (node c s top (suc h)) t n) e
 
 module _ (c : List ℕ) (s : Shape) (some : 0 < s.size) (top : ℕ) where
-  pub rows_turn : (h q i r m left to b : ℕ) (tray tray₁ : List ℕ) → 0 < h → i < fan s → r < s.size → m ≡ min ((fan s - i) * s.size - r) left → b ≡ node c s top (h - 1) q
+  pub rows_turn : (h q i r m left left' to b : ℕ) (tray tray₁ : List ℕ) → 0 < h → i < fan s → r < s.size → m ≡ min ((fan s - i) * s.size - r) left → left ≡ m + left' → b ≡ node c s top (h - 1) q
       → tray₁ ≡ over tray to (gathered c s (slot c s b) (i * s.size + r) m)
-      → over tray₁ (to + m) (gathered c s (node c s top h) (((q + 1) * fan s + 0) * s.size + 0) (left - m))
+      → over tray₁ (to + m) (gathered c s (node c s top h) (((q + 1) * fan s + 0) * s.size + 0) left')
       ≡ over tray to (gathered c s (node c s top h) ((q * fan s + i) * s.size + r) left)
-  rows_turn zero q i r m left to b tray tray₁ l u v e a g = absurd (omega arith)
-  rows_turn (suc h) q i r m left to b tray tray₁ l u v e a g =
+  rows_turn zero q i r m left left' to b tray tray₁ l u v e w a g = absurd (omega arith)
+  rows_turn (suc h) q i r m left left' to b tray tray₁ l u v e w a g =
       let t : suc h - 1 ≡ h = omega arith in
-      row-turn c s some top h q i r m left to tray tray₁ u v e (rw (a, t) at g)
+      row-turn c s some top h q i r m left left' to tray tray₁ u v e w (rw (a, t) at g)
 
   pub rows_begin : (h p n : ℕ) → 0 < h → gathered c s (node c s top h) ((p / s.size / fan s * fan s + p / s.size % fan s) * s.size + p % s.size) n
       ≡ gathered c s (node c s top h) p n
@@ -185,12 +198,6 @@ module _ (c : List ℕ) (s : Shape) (block : ℕ → ℕ) where
   pub part_gathered : (k p n : ℕ) → take k (drop p (gathered c s block 0 n)) ≡ gathered c s block p (min k (n - p))
   part_gathered k p n = rw (drop-gathered p 0 n, zero-add p) (take-gathered k p (n - p))
 
-  -- the tray's end may cut it
-  pub cut-gathered : (tray : List ℕ) (at p m k : ℕ) → m ≤ k → min k (length tray - at) ≤ m → over tray at (gathered c s block p m) ≡ over tray at (gathered c s block p k)
-  cut-gathered tray at p m k l h =
-      let e : min m k ≡ m = omega arith in
-      ap (λ (x : List ℕ). over tray at x) (ap (gathered c s block p) (sym e) ∙ sym (take-gathered m p k)) ∙ over-take (gathered c s block p k) tray at m (rw (length-gathered c s block p k) h)
-
 spots : (c : List ℕ) (s : Shape) (top h from n : ℕ) → map (λ p. get_or c (spot c s top h p) 0) (run from n) ≡ gathered c s (node c s top h) from n
 unfolding run gathered
 spots c s top h from zero = refl
@@ -200,16 +207,18 @@ pub contents-gathered : (c : List ℕ) (s : Shape) (top d size : ℕ) → conten
 unfolding contents
 contents-gathered c s top d size = spots c s top (tall s d) 0 size
 
--- the whole promise, from the clamped number of bytes
-module _ (c : List ℕ) (s : Shape) (top d size p n at m a b k : ℕ) (tray : List ℕ) (e : m ≡ min a b) (f : a ≡ min n k) (g : k ≡ size - p) (g' : b ≡ length tray - at) where
-  pub gather_is : over tray at (gathered c s (node c s top (tall s d)) p m) ≡ over tray at (take n (drop p (contents c s top d size)))
+-- the whole promise, by the bytes that are there and have room
+module _ (c : List ℕ) (s : Shape) (top d size p there m : ℕ) (tray : List ℕ) (e : m ≡ min there (length tray)) (f : there ≡ size - p) where
+  gather_is : gathered c s (node c s top (tall s d)) p m ≡ take (length tray) (drop p (contents c s top d size))
   gather_is =
-      rw (contents-gathered c s top d size, part_gathered c s (node c s top (tall s d)) n p size)
-      (cut-gathered c s (node c s top (tall s d)) tray at p m (min n (size - p)) (omega arith) (omega arith))
+      let n : m ≡ min (length tray) (size - p) = omega arith in
+      rw (contents-gathered c s top d size, part_gathered c s (node c s top (tall s d)) (length tray) p size, n)
 
-  pub gather_done : (h : ℕ) (tray₁ : List ℕ) → h ≡ tall s d → tray₁ ≡ over tray at (gathered c s (node c s top h) p m) → tray₁ ≡ over tray at (take n (drop p (contents c s top d size)))
-  gather_done h tray₁ t u = u ∙ rw t gather_is
+  pub gather_done : (h k : ℕ) (new : List ℕ) → h ≡ tall s d → k ≡ m → new ≡ gathered c s (node c s top h) p (length (take k (drop 0 tray)))
+      → put_mid 0 k tray new ≡ over tray 0 (take (length tray) (drop p (contents c s top d size)))
+  gather_done h k new t u g =
+      filled tray new 0 k m (gathered c s (node c s top h) p) (length-gathered c s (node c s top h) p) u (omega arith) g ∙ rw t (ap (over tray 0) gather_is)
 
-  pub gather_none : m ≡ 0 → tray ≡ over tray at (take n (drop p (contents c s top d size)))
+  pub gather_none : m ≡ 0 → tray ≡ over tray 0 (take (length tray) (drop p (contents c s top d size)))
   unfolding over
-  gather_none z = rw (gathered_none c s (node c s top (tall s d)) p m z) at gather_is
+  gather_none z = rw (gathered_none c s (node c s top (tall s d)) p m z) at (ap (over tray 0) gather_is)

@@ -5,14 +5,14 @@ use Prim.Native.Nat.{ℕ, zero, suc, ◌+◌, ◌-◌, ◌^◌, min, ◌≤◌, 
 use native.Mathlib.Decide.{dec_lt}
 use native.Mathlib.Omega.{arith}
 use lib.ListN.{length, get_or, take, drop, replicate, drop_of_length-le, length-drop, length-take}
-use lib.Seq.{get_or-take, get_or-drop, take-take, take_all, drop-drop}
+use lib.Seq.{ext_get_or, get_or-take, get_or-drop, take-take, take_all, drop-drop}
 use borrow.Rule.Slice.PartMut.{put_mid}
 use Rattle.layout.specs.Bytes.{over, spliced, put, bytes, num}
-use Rattle.laws.proofs.ByteLaws.{over-take, over_past, take-over, num_past, length_over, length-bytes}
+use Rattle.laws.proofs.ByteLaws.{over-take, over_past, over_in, over_out, take-over, num_past, length_over, length-bytes}
 use Rattle.laws.proofs.Splice.{splice_over}
 
 -- as many bytes as the part has, in its place
-over_mid : (l ys : List ℕ) (a m : ℕ) → length ys ≡ m → a + m ≤ length l → put_mid a m l ys ≡ over l a ys
+pub over_mid : (l ys : List ℕ) (a m : ℕ) → length ys ≡ m → a + m ≤ length l → put_mid a m l ys ≡ over l a ys
 unfolding spliced
 over_mid l ys a m n h =
     let d : drop m (drop a l) ≡ drop (a + length ys) l = drop-drop m a l ∙ ap (λ (i : ℕ). drop i l) (omega arith) in
@@ -27,12 +27,38 @@ over_part l vs ys at a m e f g =
       | no u ↦ let same : a ≡ at = omega arith in rw (same, g) (over-take vs l at m (omega arith))
     ]
 
+-- the same of bytes that a call laid over the front, as many as the front has room for
+pub front_over : (l new vs : List ℕ) (k m n : ℕ) → k ≡ m → m ≡ min n (length l) → new ≡ over (take k (drop 0 l)) 0 (take (length (take k (drop 0 l))) vs) → put_mid 0 k l new ≡ over l 0 (take n vs)
+front_over l new vs k m n e f g =
+    let long : length (take k l) ≡ m = rw length-take (omega arith) in
+    let new-is : new ≡ over (take k l) 0 (take m vs) = rw long at g in
+    let same-long : length new ≡ m = ap length new-is ∙ length_over (take k l) 0 (take m vs) ∙ long in
+    let some = length-take m vs in
+    let each : (i : ℕ) → i < length (over l 0 new) → get_or (over l 0 new) i 0 ≡ get_or (over l 0 (take m vs)) i 0 =
+        λ i h. let there : i < length l = omega (arith, h, length_over l 0 new) in elim (dec_lt i (length (take m vs))) [
+          | yes u ↦ over_in l 0 new i i (omega arith) (omega arith) there ∙ ap (λ (x : List ℕ). get_or x i 0) new-is ∙ over_in (take k l) 0 (take m vs) i i (omega arith) u (omega arith) ∙ sym (over_in l 0 (take m vs) i i (omega arith) u there)
+          | no u ↦ elim (dec_lt i m) [
+            | yes v ↦ over_in l 0 new i i (omega arith) (omega arith) there ∙ ap (λ (x : List ℕ). get_or x i 0) new-is ∙ over_out (take k l) 0 (take m vs) i (λ a b. omega arith) ∙ get_or-take k l i 0 (omega arith) ∙ sym (over_out l 0 (take m vs) i (λ a b. omega arith))
+            | no v ↦ over_out l 0 new i (λ a b. omega arith) ∙ sym (over_out l 0 (take m vs) i (λ a b. omega arith))
+          ]
+        ] in
+    let fewer : take m (take n vs) ≡ take m vs = take-take m n vs (omega arith) in
+    let enough : min (length (take n vs)) (length l - 0) ≤ m = rw length-take (omega arith) in
+    over_mid l new 0 k (omega arith) (omega arith)
+    ∙ ext_get_or 0 _ _ (length_over l 0 new ∙ sym (length_over l 0 (take m vs))) each
+    ∙ ap (over l 0) (sym fewer)
+    ∙ over-take (take n vs) l 0 m enough
+
+-- written over from end to end
+pub over-whole : (l vs : List ℕ) → length vs ≡ length l → over l 0 vs ≡ vs
+over-whole l vs e =
+    let n = length_over l 0 vs in
+    sym (take_all (length l) (over l 0 vs) (omega arith)) ∙ take-over l vs (length l) (sym e) (omega arith)
+
 -- a number that fills a list
 pub put-all : (l : List ℕ) (v : ℕ) → put (length l) l 0 v ≡ bytes (length l) v
 unfolding put
-put-all l v =
-    let n : length (bytes (length l) v) ≡ length l = length-bytes (length l) v in
-    sym (take_all (length l) (over l 0 (bytes (length l) v)) (rw length_over (omega arith))) ∙ take-over l (bytes (length l) v) (length l) (sym n) (omega arith)
+put-all l v = over-whole l (bytes (length l) v) (length-bytes (length l) v)
 
 -- a number put into the part of its width
 pub put_part : (l mid new : List ℕ) (at a m v : ℕ) → a ≡ min at (length l) → m ≤ length l - a → length mid ≡ m → new ≡ put (length mid) mid 0 v → put_mid a m l new ≡ put m l at v

@@ -6,7 +6,7 @@ ghost use Rattle.layout.specs.Promises.{Creates, Deletes, Lists};
 use acts::create::{create_wants, full};
 use blocks::chain::enough;
 use filing::listing::nth_entry;
-use front::{Sought, examine, seek};
+use front::{ROOT, Sought, examine, seek};
 use layout::answers::{Listed, Refusal};
 use layout::limits::longest_name;
 use stream::descs::stream;
@@ -22,10 +22,10 @@ pub fn create(card: &mut [u8], name: &[u8]) -> Result<(), Refusal>
     if full(&*card, shape) {
         return Err(Refusal::StreamsFull);
     }
-    if !enough(&*card, shape, create_wants(&*card, shape, 0, name)) {
+    if !enough(&*card, shape, create_wants(&*card, shape, ROOT, name)) {
         return Err(Refusal::NoRoom);
     }
-    acts::create::create(card, shape, 0, name);
+    acts::create::create(card, shape, ROOT, name);
     Ok(())
 }
 
@@ -37,7 +37,7 @@ pub fn delete(card: &mut [u8], name: &[u8]) -> Result<(), Refusal>
     let Some(entry) = found else {
         return Err(Refusal::NotKnown);
     };
-    acts::delete::delete(card, shape, 0, entry.index, entry.at, name.len());
+    acts::delete::delete(card, shape, ROOT, entry.index, entry.at, name.len());
     Ok(())
 }
 
@@ -48,11 +48,11 @@ pub fn list(card: &[u8], k: usize, tray: &mut [u8]) -> Result<Listed, Refusal>
 {
     let shape = examine(card)?.shape;
     if tray.len() < longest_name() {
-        let root = stream(card, shape, 0);
+        let root = stream(card, shape, ROOT);
         nth_entry(card, shape, root, k).ok_or(Refusal::PastTheEnd)?;
         return Err(Refusal::ShortTray);
     }
-    let row = acts::list::list(card, shape, 0, k, tray).ok_or(Refusal::PastTheEnd)?;
+    let row = acts::list::list(card, shape, ROOT, k, tray).ok_or(Refusal::PastTheEnd)?;
     Ok(Listed {
         length: row.length,
         size: holding::read::size(card, shape, row.index),

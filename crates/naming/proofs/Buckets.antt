@@ -14,7 +14,7 @@ use borrow.Author.Tests.{eq-eqb, ne_eqb}
 use Rattle.layout.specs.Bytes.{pick, same}
 use Rattle.layout.specs.Filing.{Entry, name_length, entry_at, entries_from, entries, nothing}
 use Rattle.laws.proofs.Tests.{is_same}
-use Rattle.naming.specs.Buckets.{hash_from, bucket_of, name_at, among, last_in, unlinked, Linked}
+use Rattle.naming.specs.Buckets.{hash_from, bucket_of, name_at, among, last_in, up_to, unlinked, Linked}
 use Rattle.naming.specs.declared.apart.Link.{Link}
 
 -- ---- the bucket of a name, byte by byte
@@ -73,7 +73,7 @@ module _ (es : List Entry) where
     pub met_here : r ≡ true → true ≡ among es x name
     met_here t = rw (step, ← e, t) at inv
 
-    module _ (next : ℕ) (f : next ≡ (get_or links j unlinked).before) where
+    module _ (next : ℕ) (f : next ≡ up_to (get_or links j unlinked).before) where
       next_is : next ≡ last_in es (bucket_of name) j
       next_is =
           let z : left - 1 ≡ j = omega arith in

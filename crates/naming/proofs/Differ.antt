@@ -15,7 +15,7 @@ use Rattle.laws.proofs.Lists.{In, Distinct, in_run, run_in}
 use Rattle.laws.proofs.Tests.{Is, is_not, is_same}
 use Rattle.laws.proofs.Entries.{is_names}
 use Rattle.filing.proofs.Finding.{entries_stop}
-use Rattle.naming.specs.Buckets.{name_at, among, first_of, last_in, unlinked, Filed}
+use Rattle.naming.specs.Buckets.{name_at, among, first_of, last_in, up_to, unlinked, Filed}
 use Rattle.naming.specs.declared.apart.Link.{Link}
 use Rattle.naming.specs.Rooted.{good_at, tidy_from, Tidy, Here}
 use Rattle.tables.proofs.Every.{is_all_in}
@@ -89,13 +89,13 @@ differ_is es =
 -- ---- the loop over the entries
 
 -- empty buckets: nothing is filed
-pub none_filed : (es : List Entry) → Filed es 0 (record { last = replicate 1024 0; links = replicate 256 unlinked })
+pub none_filed : (es : List Entry) → Filed es 0 (record { last = replicate 1024 None; links = replicate 256 unlinked })
 unfolding last_in
 none_filed es = record {
   linked = λ j h. absurd (omega arith);
-  headed = λ h l. get_or-replicate {A = ℕ} 1024 h 0 0 l;
+  headed = λ h l. ap up_to (get_or-replicate {A = Option ℕ} 1024 h None None l);
   long = length-replicate {A = Link} 256 unlinked;
-  wide = length-replicate {A = ℕ} 1024 0;
+  wide = length-replicate {A = Option ℕ} 1024 None;
 }
 
 module _ (r : List ℕ) where

@@ -9,13 +9,13 @@ use native.Mathlib.Decide.{ℕ_discrete, dec_lt}
 use native.Mathlib.Omega.{arith}
 use lib.ListN.{length, get_or, set, take, drop, length-take, length-set}
 use borrow.Author.Tests.{eq-eqb, ne_eqb}
-use Rattle.std.specs.Prelude.{Some, None}
+use Rattle.std.specs.Prelude.{Option, Some, None}
 use Rattle.std.proofs.Common.{get_or-set_same, get_or-set_other}
 use Rattle.layout.specs.Bytes.{pick}
 use Rattle.layout.specs.Filing.{Entry, name_length, entries, nothing}
 use Rattle.filing.specs.Paged.{piece_at}
 use Rattle.filing.proofs.Paging.{length_piece, piece_length, piece_name}
-use Rattle.naming.specs.Buckets.{bucket_of, name_at, among, last_in, unlinked, Linked, Filed}
+use Rattle.naming.specs.Buckets.{bucket_of, name_at, among, last_in, up_to, unlinked, Linked, Filed}
 use Rattle.naming.specs.Rooted.{Here}
 use Rattle.naming.specs.declared.apart.Link.{Link}
 use Rattle.naming.specs.declared.apart.Buckets.{Buckets}
@@ -40,20 +40,20 @@ module _ (r : List ℕ) (at i : ℕ) (here : Here r at i) (m : Buckets) (filed :
     pub name-short : length name ≤ 64
     name-short = omega (arith, ap length g, length-take (6 + n - 6) (drop 6 piece), n_is, here.short)
 
-    module _ (h x : ℕ) (b : h ≡ bucket_of name) (low : h < 1024) (d : x ≡ get_or m.last h 0) where
-      x_is : x ≡ last_in es h i
-      x_is = d ∙ filed.headed h low
+    module _ (h : ℕ) (x : Option ℕ) (b : h ≡ bucket_of name) (low : h < 1024) (d : x ≡ get_or m.last h None) where
+      x_is : up_to x ≡ last_in es h i
+      x_is = ap up_to d ∙ filed.headed h low
 
-      pub x_le : x ≤ i
+      pub x_le : up_to x ≤ i
       x_le = omega (arith, x_is, last_le es h i)
 
-      pub x_linked : Linked es x m.links
+      pub x_linked : Linked es (up_to x) m.links
       x_linked j l = filed.linked j (omega (arith, x_le))
 
-      pub x_own : x ≢ 0 → bucket_of (name_at es (x - 1)) ≡ bucket_of name
+      pub x_own : up_to x ≢ 0 → bucket_of (name_at es (up_to x - 1)) ≡ bucket_of name
       x_own = rw (← b, x_is) (last_own es h i)
 
-      module _ (q : Bool) (w : q ≡ among es x name) where
+      module _ (q : Bool) (w : q ≡ among es (up_to x) name) where
         met_is : q ≡ among es i (name_at es i)
         met_is = w ∙ rw (x_is, name_is) (among-last es (name_at es i) h i (ap bucket_of (sym name_is) ∙ sym b))
 
@@ -70,24 +70,24 @@ module _ (r : List ℕ) (at i : ℕ) (here : Here r at i) (m : Buckets) (filed :
       abbrev links' : List Link
       links' = set m.links i (record { at = at; before = x })
 
-      abbrev last' : List ℕ
-      last' = set m.last h (i + 1)
+      abbrev last' : List (Option ℕ)
+      last' = set m.last h (Some i)
 
-      own_link : ((get_or links' i unlinked).at ≡ (get_or es i nothing).at) × ((get_or links' i unlinked).before ≡ last_in es (bucket_of (name_at es i)) i)
+      own_link : ((get_or links' i unlinked).at ≡ (get_or es i nothing).at) × (up_to (get_or links' i unlinked).before ≡ last_in es (bucket_of (name_at es i)) i)
       own_link =
           let lt : i < length m.links = omega (arith, here.few, filed.long) in
           rw get_or-set_same (ap (λ (x : Entry). x.at) (sym here.entry), rw bucket_i x_is)
 
-      old_link : (j : ℕ) → j < i → ((get_or links' j unlinked).at ≡ (get_or es j nothing).at) × ((get_or links' j unlinked).before ≡ last_in es (bucket_of (name_at es j)) j)
+      old_link : (j : ℕ) → j < i → ((get_or links' j unlinked).at ≡ (get_or es j nothing).at) × (up_to (get_or links' j unlinked).before ≡ last_in es (bucket_of (name_at es j)) j)
       old_link j l = let ne : j ≢ i = λ z. omega arith in rw get_or-set_other (filed.linked j l)
 
-      own_head : get_or last' h 0 ≡ last_in es h (i + 1)
+      own_head : up_to (get_or last' h None) ≡ last_in es h (i + 1)
       unfolding last_in
       own_head =
           let lt : h < length m.last = omega (arith, low, filed.wide) in
           rw (get_or-set_same, add-one i, eq-eqb (bucket_of (name_at es i)) h bucket_i)
 
-      old_head : (k : ℕ) → k < 1024 → (k ≡ h → ⊥) → get_or last' k 0 ≡ last_in es k (i + 1)
+      old_head : (k : ℕ) → k < 1024 → (k ≡ h → ⊥) → up_to (get_or last' k None) ≡ last_in es k (i + 1)
       unfolding last_in
       old_head k l z = let ne : k ≢ h = z in rw (get_or-set_other, add-one i, ne_eqb (bucket_of (name_at es i)) k (λ y. z (sym y ∙ bucket_i))) (filed.headed k l)
 

@@ -2,29 +2,25 @@
 use mathlib.Core.Path.{◌≡◌, refl, sym, ap, ◌∙◌}
 use mathlib.Core.Bool.{Bool, true, false}
 use mathlib.Core.List.{List, [], ◌∷◌, map}
-use Prim.Native.Nat.{ℕ, ◌+◌, ◌-◌, ◌*◌, ◌%◌, ◌^◌, min, ◌≤◌, ◌<◌}
-use native.Mathlib.Nat.{div-add-mod', mod-lt, mul-le-mul}
+use Prim.Native.Nat.{ℕ, zero, suc, ◌+◌, ◌-◌, ◌*◌, ◌^◌, min, ◌≤◌, ◌<◌}
 use native.Mathlib.Decide.{dec_le}
 use native.Mathlib.Omega.{arith}
 use lib.ListN.{length, set, replicate, length-map}
-use lib.Dec.{leb, eqb, T}
+use lib.Dec.{leb, T}
 use Rattle.std.specs.Prelude.{Option, Some, None}
 use Rattle.layout.specs.Limits.{most_streams}
 use Rattle.layout.specs.Bytes.{pick, both, num, over, run, those, all_b}
-use Rattle.layout.specs.Pyramid.{up}
 use Rattle.layout.specs.Marks.{fresh, mark_ok, mark_set}
-use Rattle.layout.specs.Streams.{data_of, desc_of, live, lives, frees, desc_chain, slots, stream, stream_bytes, table_bytes}
+use Rattle.layout.specs.Streams.{desc_of, live, lives, slots, stream, stream_bytes, table_bytes}
 use Rattle.layout.specs.Filing.{Entry, name_length, entry_at, entries_from, entries, entries_of, good_name, reads, reads_from, distinct_names, good_directory}
-use Rattle.layout.specs.Sound.{right_desc, live_form, free_form, good_form, same_set, reached, rule4, rule5, rule8}
-use Rattle.layout.specs.Ranges.{Small}
+use Rattle.layout.specs.Sound.{same_set, reached, rule4, rule8}
 use Rattle.laws.proofs.Picks.{leb_yes, leb_no}
-use Rattle.laws.proofs.Laying.{length-contents}
 use Rattle.laws.proofs.Lists.{in_run, length_run}
 use Rattle.laws.proofs.Sets.{distinct_le}
-use Rattle.laws.proofs.Tests.{is_both, is_eqb, is_leb, is_itself, is_all, is_separate}
+use Rattle.laws.proofs.Tests.{is_separate}
 use Rattle.laws.proofs.Marking.{mark-separate}
 use Rattle.filing.specs.Paged.{piece_size, piece_at}
-use Rattle.filing.proofs.Finding.{entries-step, entries_stop}
+use Rattle.filing.proofs.Finding.{entries-start, entries-step, entries_stop}
 use Rattle.filing.proofs.Paging.{length_piece, piece_index, piece_length, piece_name}
 use Rattle.marking.proofs.Walking.{cleared}
 use Rattle.tables.specs.Compared.{right_mark, asked}
@@ -146,34 +142,21 @@ not_both z = let a : ◌≡◌ {A = ℕ} 0 1 = ap (λ (b : Bool). pick b 1 0) z 
 
 -- ---- the root's size
 
--- what a right descriptor reserves is no more than the card's blocks hold
-pub right_small : (c : List ℕ) (s : Shape) (t : Desc) → Small c s → T (right_desc s t) → t.size < 2 ^ 32
-unfolding right_desc
-right_small c s t small h =
-    let w = (is_both (is_eqb t.flags 0) (is_both (is_eqb t.reserved (up s.size t.size * s.size)) (is_leb (data_of s t) s.count))).out h in
-    let x = t.size + (s.size - 1) in
-    let a = div-add-mod' x s.size in
-    let b : x % s.size < s.size = mod-lt x (omega (arith, small.least)) in
-    let d = div-add-mod' t.reserved s.size in
-    let e : t.reserved % s.size < s.size = mod-lt t.reserved (omega (arith, small.least)) in
-    let m : data_of s t * s.size ≤ 4096 * 4096 = mul-le-mul {n₁ = data_of s t} {n₂ = 4096} (omega (arith, w.1.1, small.count)) small.most in
-    omega (arith, w.1.0, small.least, small.most)
+-- entries in order are short, and so is a directory of few
+module _ (r : List ℕ) where
+  short_from : (d at : ℕ) → length r ≤ at + d → tidy_from r at ≡ true → length r ≤ at + 70 * length (entries_from (length r) r at)
+  short_from zero at h t = omega arith
+  short_from (suc d) at h t = elim (dec_le (length r) at) [
+    | yes k ↦ omega arith
+    | no k ↦ (let l : at < length r = omega arith in
+        let two = is_two (good_at r at) (tidy_from r (at + 6 + name_length r at)) (sym (tidy_step r at l) ∙ t) in
+        let good : T (good_at r at) = rw two.0 tt in
+        let w = short_from d (at + 6 + name_length r at) (omega arith) two.1 in
+        omega (arith, w, (parts r at good).2, name-long r at good, ap length (entries-step r at l)))
+  ]
 
-lives_right : (s : Shape) (t : Desc) → T (live_form s t) → T (right_desc s t)
-unfolding live_form
-lives_right s t h = ((is_both (is_itself (right_desc s t)) (is_itself (pick (eqb (data_of s t) 0) (eqb t.top 0) true))).out h).0
-
--- a root that passed rule 5 is live and right
-pub root_right : (c : List ℕ) (s : Shape) → 1 ≤ slots (table_bytes c s) → rule5 c s ≡ true → T (right_desc s (stream c s 0))
-unfolding rule5 stream
-root_right c s one e =
-    let l = table_bytes c s in
-    let w = (is_both (is_all (good_form s l) (λ k. T (good_form s l k)) (run 0 (slots l)) (λ k. is_itself (good_form s l k))) (is_both (is_itself (same_set (desc_chain l) (frees l))) (is_itself (live l 0)))).out (rw e tt) in
-    alive (live l 0) w.1.1 (w.0 0 (in_run 0 (slots l) 0 (omega arith) (omega arith)))
-  where
-    alive : (b : Bool) → T b → T (pick b (live_form s (desc_of (table_bytes c s) 0)) (free_form (desc_of (table_bytes c s) 0))) → T (right_desc s (desc_of (table_bytes c s) 0))
-    alive true t h = lives_right s (desc_of (table_bytes c s) 0) h
-    alive false t h = absurd t
+  tidy_low : tidy_from r 0 ≡ true → length (entries r) ≤ most_streams → length r < 2 ^ 32
+  tidy_low t few = omega (arith, short_from (length r) 0 (omega arith) t, ap length (entries-start r), few)
 
 -- ---- the rule
 
@@ -198,12 +181,6 @@ module _ (c : List ℕ) (s : Shape) (tab : List ℕ) (n : ℕ) (t : Desc) (four 
   unfolding stream_bytes
   bytes_are = rw root_is
 
-  pub root-low : Small c s → rule5 c s ≡ true → t.size < 2 ^ 32
-  root-low small five = rw root_is (right_small c s (stream c s 0) small (root_right c s (omega (arith, (slots-few c s n four many).0)) five))
-
-  pub root-short : Small c s → rule5 c s ≡ true → length (bytes_of c s t) < 2 ^ 32
-  root-short small five = rw (length-contents c s t.top (data_of s t) t.size) (root-low small five)
-
   abbrev ks : List ℕ
   ks = indices (entries (bytes_of c s t))
 
@@ -226,11 +203,12 @@ module _ (c : List ℕ) (s : Shape) (tab : List ℕ) (n : ℕ) (t : Desc) (four 
     pub rule8_is : both (both (tidy_from (bytes_of c s t) 0) (distinct_names es)) (both (mark_ok n m₁ (0 ∷ ks)) (all_b (right_mark (mark_set n m₁ (0 ∷ ks)) (asked tab true)) (run 0 n))) ≡ rule8 c s
     rule8_is = rw zero-first rule_is
 
-    pub root_tidy : both (tidy_from (bytes_of c s t) 0) (mark_ok n m₁ (0 ∷ ks)) ≡ true → length (bytes_of c s t) < 2 ^ 32 → Tidy (bytes_of c s t)
-    root_tidy h low =
+    pub root_tidy : both (tidy_from (bytes_of c s t) 0) (mark_ok n m₁ (0 ∷ ks)) ≡ true → Tidy (bytes_of c s t)
+    root_tidy h =
         let two = is_two (tidy_from (bytes_of c s t) 0) (mark_ok n m₁ (0 ∷ ks)) h in
         let few = slots-few c s n four many in
         let y = cleared m m₁ n (omega (arith, few.1)) a in
         let w = (is_separate n (0 ∷ ks)).out (rw (← mark-separate n m₁ y.0 y.1 (0 ∷ ks), two.1) tt) in
         let l = distinct_le (0 ∷ ks) (run 0 n) w.1 (λ x i. in_run 0 n x (omega arith) (omega (arith, w.0 x i))) in
-        record { whole = two.0; few = omega (arith, length_run 0 n, length-map es (λ (x : Entry). x.index), few.1); low = low }
+        let short : length es ≤ most_streams = omega (arith, length_run 0 n, length-map es (λ (x : Entry). x.index), few.1) in
+        record { whole = two.0; few = short; low = tidy_low (bytes_of c s t) two.0 short }

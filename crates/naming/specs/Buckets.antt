@@ -1,5 +1,5 @@
 -- Names in buckets: each is compared only with the earlier ones of its own bucket.
-use Rattle.std.specs.Prelude.{◌≡◌, Bool, true, false, not, ℕ, zero, suc, ◌+◌, ◌*◌, ◌%◌, ◌<◌, List, [], ◌∷◌, length, get_or, eqb}
+use Rattle.std.specs.Prelude.{◌≡◌, Bool, true, false, not, ℕ, zero, suc, ◌+◌, ◌*◌, ◌%◌, ◌<◌, List, [], ◌∷◌, length, get_or, eqb, Option, Some, None}
 use Rattle.layout.specs.Bytes.{pick, same}
 use Rattle.layout.specs.Filing.{Entry, nothing}
 use Rattle.naming.specs.declared.apart.Link.{Link}
@@ -33,17 +33,22 @@ unfoldable pub last_in : List Entry → ℕ → ℕ → ℕ
 last_in es h zero = 0
 last_in es h (suc i) = pick (eqb (bucket_of (name_at es i)) h) (suc i) (last_in es h i)
 
--- ---- each bucket's last entry, and the entry before each in its bucket; they count from 1
+-- ---- each bucket's last entry, and the entry before each in its bucket
+
+-- how many entries there are up to that one, itself the last
+abbrev pub up_to : Option ℕ → ℕ
+up_to None = 0
+up_to (Some j) = suc j
 
 -- what stands where there is no link
 abbrev pub unlinked : Link
-unlinked = record { at = 0; before = 0 }
+unlinked = record { at = 0; before = None }
 
 abbrev pub Linked : List Entry → ℕ → List Link → Type 0
-Linked es i links = (j : ℕ) → j < i → ((get_or links j unlinked).at ≡ (get_or es j nothing).at) × ((get_or links j unlinked).before ≡ last_in es (bucket_of (name_at es j)) j)
+Linked es i links = (j : ℕ) → j < i → ((get_or links j unlinked).at ≡ (get_or es j nothing).at) × (up_to (get_or links j unlinked).before ≡ last_in es (bucket_of (name_at es j)) j)
 
-abbrev pub Headed : List Entry → ℕ → List ℕ → Type 0
-Headed es i last = (h : ℕ) → h < 1024 → get_or last h 0 ≡ last_in es h i
+abbrev pub Headed : List Entry → ℕ → List (Option ℕ) → Type 0
+Headed es i last = (h : ℕ) → h < 1024 → up_to (get_or last h None) ≡ last_in es h i
 
 -- the first i entries are in their buckets
 pub record Filed (es : List Entry) (i : ℕ) (b : Buckets) : Type 0 where

@@ -3,12 +3,12 @@ ghost use Rattle.std.specs.Prelude.{◌≡◌, ◌≢◌, ◌+◌, ◌-◌, ◌<
 ghost use Rattle.layout.specs.Bytes.{pick};
 ghost use Rattle.layout.specs.Filing.{name_length, entries, distinct_names};
 ghost use Rattle.filing.specs.Paged.{piece_at};
-ghost use Rattle.naming.specs.Buckets.{bucket_of, name_at, among, Linked, Filed};
+ghost use Rattle.naming.specs.Buckets.{bucket_of, name_at, among, up_to, Linked, Filed};
 ghost use Rattle.naming.specs.Rooted.{bytes_of, Tidy, Here};
 
-use filing::entries::read_head;
-use filing::pages::{PAGE, PIECE, name_at, turn};
 use blocks::cut::Cut;
+use filing::entries::{HEAD, read_head};
+use filing::pages::{PAGE, PIECE, name_at, turn};
 use layout::Desc;
 
 // How many buckets there are.
@@ -22,23 +22,17 @@ const FACTOR: usize = 31;
 // The most entries that a directory has.
 const ENTRIES: usize = 256;
 
-// The bytes of an entry before its name.
-pub const HEAD: usize = 6;
-
-// No entry, where entries count from 1.
-const NONE: u16 = 0;
-
 // An entry in its bucket: where it starts, and the entry before it there.
 #[derive(Clone, Copy)]
 struct Link {
     at: u32,
-    before: u16,
+    before: Option<u8>,
 }
 
 // Entries in their buckets: each bucket's last one, and from each entry the one before.
 #[derive(Drop)]
 struct Buckets {
-    last: [u16; BUCKETS],
+    last: [Option<u8>; BUCKETS],
     links: [Link; ENTRIES],
 }
 
@@ -54,18 +48,18 @@ fn bucket(name: &[u8]) -> usize
 }
 
 impl Buckets {
-    // Whether one of the first `x` entries has that name, where the last of them is in its bucket.
-    fn met(&self, card: &[u8], s: Cut, t: Desc, x: u16, name: &[u8]) -> bool
-        requires { (length name.now ≤ 64) × (x ≤ 256) × (x ≤ length (entries (bytes_of card.now s t))) × (length self.now.links ≡ 256) × Linked (entries (bytes_of card.now s t)) x self.now.links × (x ≢ 0 → bucket_of (name_at (entries (bytes_of card.now s t)) (x - 1)) ≡ bucket_of name.now) }
-        ensures { result ≡ among (entries (bytes_of card.now s t)) x name.now }
+    // Whether one of the entries up to number `x` has that name, where entry `x` is in its bucket.
+    fn met(&self, card: &[u8], s: Cut, t: Desc, x: Option<u8>, name: &[u8]) -> bool
+        requires { (length name.now ≤ 64) × (up_to x ≤ length (entries (bytes_of card.now s t))) × (length self.now.links ≡ 256) × Linked (entries (bytes_of card.now s t)) (up_to x) self.now.links × (up_to x ≢ 0 → bucket_of (name_at (entries (bytes_of card.now s t)) (up_to x - 1)) ≡ bucket_of name.now) }
+        ensures { result ≡ among (entries (bytes_of card.now s t)) (up_to x) name.now }
     {
-        let mut left = x;
-        while left != NONE {
-            let link = self.links[usize::from(left - 1)];
+        let mut last = x;
+        while let Some(j) = last {
+            let link = self.links[usize::from(j)];
             if name_at(card, s, t, link.at as usize, name) {
                 return true;
             }
-            left = link.before;
+            last = link.before;
         }
         false
     }
@@ -95,23 +89,23 @@ impl Buckets {
             at: at as u32,
             before,
         };
-        self.last[h] = (i + 1) as u16;
+        self.last[h] = Some(i as u8);
         Some(n)
     }
 }
 
 // Whether no name stands twice in the directory that `t` describes: its entries are filed one after the other, up to the
-// first whose name was met.
+// first whose name was met. No `for`: only an entry's bytes tell where the next one starts.
 pub fn names_apart(card: &[u8], s: Cut, t: Desc) -> bool
     requires { Tidy (bytes_of card.now s t) }
     ensures { result ≡ distinct_names (entries (bytes_of card.now s t)) }
 {
     let none = Link {
         at: 0,
-        before: NONE,
+        before: None,
     };
     let mut buckets = Buckets {
-        last: [NONE; BUCKETS],
+        last: [None; BUCKETS],
         links: [none; ENTRIES],
     };
     let mut page = [0; PAGE];

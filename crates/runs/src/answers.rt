@@ -1,8 +1,8 @@
 // What a call answered, in the numbers that are printed.
-ghost use Rattle.std.specs.Prelude.{◌≡◌};
+ghost use Rattle.std.specs.Prelude.{◌≡◌, MatchResult};
 ghost use Rattle.layout.specs.Answers.{number_of, rule_of};
 
-use layout::answers::{Counted, Done, Listed, Refusal, Sized};
+use layout::answers::{Listed, Refusal};
 use std::fmt;
 
 // The number, the rule or the name's length, the count or the size.
@@ -19,73 +19,64 @@ impl fmt::Display for Answer {
     }
 }
 
-impl From<Refusal> for Answer {
-    ghost from_gives = { λ why a. (a.number ≡ number_of why) × (a.small ≡ rule_of why) × (a.large ≡ 0) };
+// Format, check, create, truncate and delete tell nothing.
+impl From<()> for Answer {
+    ghost from_gives = { λ _ a. (a.number ≡ 0) × (a.small ≡ 0) × (a.large ≡ 0) };
 
-    fn from(why: Refusal) -> Answer {
-        let (number, small) = match why {
-            Refusal::Damaged(rule) => (1, usize::from(rule)),
-            Refusal::BadName => (2, 0),
-            Refusal::NotKnown => (3, 0),
-            Refusal::AlreadyKnown => (4, 0),
-            Refusal::PastTheEnd => (5, 0),
-            Refusal::StreamsFull => (6, 0),
-            Refusal::NoRoom => (7, 0),
-            Refusal::ShortTray => (8, 0),
-            Refusal::BadShape => (9, 0),
-        };
+    fn from(_told: ()) -> Answer {
         Answer {
-            number,
-            small,
+            number: 0,
+            small: 0,
             large: 0,
         }
     }
 }
 
-impl From<Done> for Answer {
-    fn from(answer: Done) -> Answer {
-        match answer {
-            Done::Done => Answer::default(),
-            Done::Refused(why) => Answer::from(why),
-        }
-    }
-}
+// Room, write and read tell a count, and size a size.
+impl From<usize> for Answer {
+    ghost from_gives = { λ n a. (a.number ≡ 0) × (a.small ≡ 0) × (a.large ≡ n) };
 
-impl From<Counted> for Answer {
-    fn from(answer: Counted) -> Answer {
-        match answer {
-            Counted::Count(large) => Answer {
-                number: 0,
-                small: 0,
-                large,
-            },
-            Counted::Refused(why) => Answer::from(why),
-        }
-    }
-}
-
-impl From<Sized> for Answer {
-    fn from(answer: Sized) -> Answer {
-        match answer {
-            Sized::Size(large) => Answer {
-                number: 0,
-                small: 0,
-                large,
-            },
-            Sized::Refused(why) => Answer::from(why),
+    fn from(large: usize) -> Answer {
+        Answer {
+            number: 0,
+            small: 0,
+            large,
         }
     }
 }
 
 impl From<Listed> for Answer {
-    fn from(answer: Listed) -> Answer {
+    ghost from_gives = { λ told a. (a.number ≡ 0) × (a.small ≡ told.length) × (a.large ≡ told.size) };
+
+    fn from(told: Listed) -> Answer {
+        Answer {
+            number: 0,
+            small: told.length,
+            large: told.size,
+        }
+    }
+}
+
+impl From<Refusal> for Answer {
+    ghost from_gives = { λ why a. (a.number ≡ number_of why) × (a.small ≡ rule_of why) × (a.large ≡ 0) };
+
+    fn from(why: Refusal) -> Answer {
+        Answer {
+            number: why.number(),
+            small: why.rule(),
+            large: 0,
+        }
+    }
+}
+
+// What was told, or the refusal.
+impl<T: Into<Answer>> From<Result<T, Refusal>> for Answer {
+    ghost from_gives = { λ answer a. MatchResult answer (λ told. T.converts told a) (λ why. (a.number ≡ number_of why) × (a.small ≡ rule_of why) × (a.large ≡ 0)) };
+
+    fn from(answer: Result<T, Refusal>) -> Answer {
         match answer {
-            Listed::Entry { length, size } => Answer {
-                number: 0,
-                small: length,
-                large: size,
-            },
-            Listed::Refused(why) => Answer::from(why),
+            Ok(told) => told.into(),
+            Err(why) => why.into(),
         }
     }
 }

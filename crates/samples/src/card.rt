@@ -1,4 +1,6 @@
 // A card: the plan with its blocks given out (G5), and its bytes, where its parts are put.
+ghost use Rattle.std.specs.Prelude.{◌≡◌, vec_len};
+
 use crate::fault::Fault;
 use crate::image::{Field, Image};
 use crate::kinds::Kind;
@@ -55,29 +57,73 @@ impl Card {
         Some(self.plan.streams.of(owner)?.desc)
     }
 
-    // A field of a descriptor.
-    pub fn put_part(&mut self, desc: Desc, part: Part, v: u64) -> Option<()> {
+    // A field of an owner's descriptor.
+    pub fn put_part(&mut self, owner: Owner, part: Part, v: u64) -> Option<()>
+        ensures { vec_len self.new.image.bytes ≡ vec_len self.old.image.bytes }
+    {
+        let desc = self.desc(owner)?;
         self.image.put_part(&self.plan.streams.table, desc, part, v)
     }
 
-    // A descriptor but for its flags.
-    pub fn put_desc(&mut self, desc: Desc, size: u64, top: u64, reserved: u64) -> Option<()> {
+    // An owner's descriptor but for its flags.
+    pub fn put_desc(&mut self, owner: Owner, size: u64, top: u64, reserved: u64) -> Option<()>
+        ensures { vec_len self.new.image.bytes ≡ vec_len self.old.image.bytes }
+    {
+        let desc = self.desc(owner)?;
         self.image
             .put_desc(&self.plan.streams.table, desc, size, top, reserved)
     }
 
+    // A field of the free descriptor `k`.
+    pub fn put_spare(&mut self, k: u16, part: Part, v: u64) -> Option<()>
+        ensures { vec_len self.new.image.bytes ≡ vec_len self.old.image.bytes }
+    {
+        let desc = Desc::Table(k);
+        self.image.put_part(&self.plan.streams.table, desc, part, v)
+    }
+
     // The table's first bytes.
-    pub fn put_first_offset(&mut self, v: u64) -> Option<()> {
+    pub fn put_first_offset(&mut self, v: u64) -> Option<()>
+        ensures { vec_len self.new.image.bytes ≡ vec_len self.old.image.bytes }
+    {
         self.image.put_in(&self.plan.streams.table, FIRST_OFFSET, v)
     }
 
     // A number in the root.
-    pub fn put_in_root(&mut self, field: Field, v: u64) -> Option<()> {
+    pub fn put_in_root(&mut self, field: Field, v: u64) -> Option<()>
+        ensures { vec_len self.new.image.bytes ≡ vec_len self.old.image.bytes }
+    {
         self.image.put_in(&self.plan.streams.root, field, v)
     }
 
     // The first-free field.
-    pub fn put_first_free(&mut self, v: u64) -> Option<()> {
+    pub fn put_first_free(&mut self, v: u64) -> Option<()>
+        ensures { vec_len self.new.image.bytes ≡ vec_len self.old.image.bytes }
+    {
         self.image.put(FIRST_FREE, v)
+    }
+}
+
+#[cfg(test)]
+mod tests {
+    use super::*;
+    use crate::draft::Draft;
+    use crate::draws::Draws;
+    use crate::sizes::BlockSize;
+    use std::test::Fail;
+
+    // A bare card has one block, that of the table.
+    #[test]
+    fn bare_card(rt: HostRuntime) -> Result<(), Fail> {
+        let alloc = rt.alloc();
+        let draws = Draws::new(1, 0);
+        let block = BlockSize::new(6).ok_or(Fault::NoSuchPart)?;
+        let kind = Kind::Bare;
+        let plan = Draft { draws, kind, block }.plan(alloc)?;
+        let card = Card::new(alloc, plan)?;
+        let shown = card.image.shown().ok_or(Fault::NoSuchPart)?;
+        assert_eq!(rt; shown.len(), 87 + 64);
+        assert_eq!(rt; shown.get(..4), Some(b"YAK1".as_slice()));
+        Ok(())
     }
 }

@@ -1,13 +1,13 @@
 // What a card draws: numbers from the dice (G1), and values by its turn. Card `i` of a clause takes value `i` of a list, and
 // begins again where the list ends (G9).
-ghost use Rattle.std.specs.Prelude.{◌<◌};
+ghost use Rattle.std.specs.Prelude.{◌≡◌, ◌+◌, ◌%◌, ◌<◌, ◌≤◌, ◌↔◌, length, slice_get, Some, IsSome, IfSome, Contains, IsPermutation};
 
 use dice::Dice;
 
 #[derive(Drop)]
 pub struct Draws {
     dice: Dice,
-    turn: usize,
+    pub turn: usize,
 }
 
 // `a + b`: a number from `a` on, one of `b`.
@@ -24,15 +24,13 @@ pub enum Value {
 
 impl Draws {
     // The draws of the card that has this turn, from a state that names it.
-    pub fn new(state: usize, turn: usize) -> Draws {
+    pub fn new(state: usize, turn: usize) -> Draws
+        ensures { result.turn ≡ turn }
+    {
         Draws {
             dice: Dice::started(state),
             turn,
         }
-    }
-
-    pub fn turn(&self) -> usize {
-        self.turn
     }
 
     // A number below `n`; 0 where `n` is 0.
@@ -44,24 +42,38 @@ impl Draws {
     }
 
     // A number of a span.
-    pub fn one_in(&mut self, Span(least, count): Span) -> u32 {
+    pub fn one_in(&mut self, span: Span) -> u32
+        ensures least { span.0 ≤ result }
+        ensures within { 0 < span.1 → result < span.0 + span.1 }
+    {
+        let Span(least, count) = span;
         u32::from(least) + self.below(usize::from(count))
     }
 
     // One of the items.
-    pub fn one_of<T: Copy>(&mut self, items: &[T]) -> Option<T> {
+    pub fn one_of<T: Copy>(&mut self, items: &[T]) -> Option<T>
+        ensures some { IsSome result ↔ (0 < length items.now) }
+        ensures member { IfSome result (λ x. Contains items.now x) }
+    {
         let i = self.below(items.len());
         items.get(i as usize).copied()
     }
 
     // The number of a span whose turn it is.
-    pub fn turn_in(&self, Span(least, count): Span) -> Option<usize> {
+    pub fn turn_in(&self, span: Span) -> Option<usize>
+        ensures { IfSome result (λ n. n ≡ span.0 + self.now.turn % span.1) }
+    {
+        let Span(least, count) = span;
         let i = self.turn.checked_rem(usize::from(count))?;
         i.checked_add(usize::from(least))
     }
 
     // The item whose turn it is.
-    pub fn turn_of<T: Copy>(&self, items: &[T]) -> Option<T> {
+    pub fn turn_of<T: Copy>(&self, items: &[T]) -> Option<T>
+        ensures some { IsSome result ↔ (0 < length items.now) }
+        ensures item { IfSome result (λ x. slice_get items.now (self.now.turn % length items.now) ≡ Some x) }
+        ensures member { IfSome result (λ x. Contains items.now x) }
+    {
         let i = self.turn.checked_rem(items.len())?;
         items.get(i).copied()
     }
@@ -82,15 +94,16 @@ impl Draws {
     }
 
     // The items in another order.
-    pub fn shuffle<T>(&mut self, items: &mut [T]) {
-        for i in (0..items.len()).rev() {
-            let other = self.below(i + 1) as usize;
-            items.swap(i, other);
-        }
+    pub fn shuffle<T>(&mut self, items: &mut [T])
+        ensures { IsPermutation items.old items.new }
+    {
+        self.dice.shuffle(items);
     }
 
     // Noise in all bytes, the last of them first.
-    pub fn noise(&mut self, bytes: &mut [u8]) {
+    pub fn noise(&mut self, bytes: &mut [u8])
+        ensures { length bytes.new ≡ length bytes.old }
+    {
         self.dice.noise(bytes);
     }
 }

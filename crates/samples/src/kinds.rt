@@ -1,4 +1,6 @@
 // What the kinds are: block sizes and the numbers of streams, spares and free blocks (G3).
+ghost use Rattle.std.specs.Prelude.{◌+◌, ◌<◌, ◌≤◌};
+
 use crate::draws::Span;
 
 #[derive(Clone, Copy, Debug, PartialEq, Eq)]
@@ -18,7 +20,10 @@ pub enum Kind {
 
 impl Kind {
     // s.
-    pub fn shifts(self) -> Span {
+    pub fn shifts(self) -> Span
+        ensures some { 0 < result.1 }
+        ensures range { (6 ≤ result.0) × (result.0 + result.1 ≤ 13) }
+    {
         match self {
             Kind::Tall | Kind::Taller | Kind::MostBlocks => Span(6, 1),
             Kind::LongNames => Span(6, 3),
@@ -27,7 +32,9 @@ impl Kind {
     }
 
     // Named streams.
-    pub fn named(self) -> Span {
+    pub fn named(self) -> Span
+        ensures { 0 < result.1 }
+    {
         match self {
             Kind::Rich => Span(4, 3),
             Kind::Common | Kind::InOrder => Span(0, 7),
@@ -40,7 +47,9 @@ impl Kind {
     }
 
     // Spares; a card of many streams has as many as there is room for.
-    pub fn spares(self) -> Span {
+    pub fn spares(self) -> Span
+        ensures { 0 < result.1 }
+    {
         match self {
             Kind::Rich => Span(3, 2),
             Kind::Tall | Kind::Taller => Span(0, 3),
@@ -50,7 +59,9 @@ impl Kind {
     }
 
     // Free blocks; a card of most blocks has as many as there is room for.
-    pub fn free(self) -> Span {
+    pub fn free(self) -> Span
+        ensures { 0 < result.1 }
+    {
         match self {
             Kind::Rich => Span(3, 6),
             Kind::Full | Kind::MostBlocks | Kind::Bare => Span(0, 1),

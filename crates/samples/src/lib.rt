@@ -3,9 +3,11 @@
 #![tactic(auto)]
 
 pub mod card;
+pub mod draft;
 pub mod draws;
 pub mod entries;
 pub mod fault;
+pub mod free;
 pub mod image;
 pub mod kinds;
 mod lay;

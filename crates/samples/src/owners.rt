@@ -1,5 +1,6 @@
 // Who owns blocks: the table, the root and the named streams.
-ghost use Rattle.std.specs.Prelude.{◌≤◌};
+ghost use Rattle.std.specs.Prelude.{◌≡◌, ◌-◌, ◌^◌, ◌<◌, ◌≤◌, length, slice_get, vec_len, Some, IfSome};
+ghost use Rattle.samples.specs.declared.owners.Owner.TheVariants as Owner;
 
 use crate::fault::Fault;
 use crate::sizes::{BlockSize, ROWS};
@@ -24,7 +25,11 @@ pub struct Stream {
 
 impl Stream {
     // A stream that has no blocks yet.
-    pub fn new(alloc: Global, desc: Desc, size: u32) -> Stream {
+    pub fn new(alloc: Global, desc: Desc, size: u32) -> Stream
+        ensures desc { result.desc ≡ desc }
+        ensures size { result.size ≡ size }
+        ensures blocks { vec_len result.blocks ≡ 0 }
+    {
         Stream {
             desc,
             size,
@@ -54,7 +59,9 @@ impl Stream {
     }
 
     // The blocks of row `t`, row 0 being the data.
-    pub fn row(&self, t: usize) -> Option<&[u16]> {
+    pub fn row(&self, t: usize) -> Option<&[u16]>
+        ensures { IfSome result (λ r. length r.now ≤ vec_len self.now.blocks) }
+    {
         let mut left = self.blocks.as_slice();
         for &width in self.widths.get(..t)? {
             left = left.get(usize::from(width)..)?;
@@ -62,17 +69,24 @@ impl Stream {
         left.get(..usize::from(*self.widths.get(t)?))
     }
 
-    pub fn data_blocks(&self) -> Option<&[u16]> {
+    pub fn data_blocks(&self) -> Option<&[u16]>
+        ensures { IfSome result (λ r. length r.now ≤ vec_len self.now.blocks) }
+    {
         self.row(0)
     }
 
     // The block at the top; 0 without data.
-    pub fn top(&self) -> u16 {
+    pub fn top(&self) -> u16
+        ensures none { vec_len self.now.blocks ≡ 0 → result ≡ 0 }
+        ensures last { 0 < vec_len self.now.blocks → slice_get self.now.blocks.items (vec_len self.now.blocks - 1) ≡ Some result }
+    {
         self.blocks.last().copied().unwrap_or(0)
     }
 
     // The bytes of its data blocks.
-    pub fn reserved(&self, block: BlockSize) -> u32 {
+    pub fn reserved(&self, block: BlockSize) -> u32
+        ensures { result < 2 ^ 28 }
+    {
         let [data, ..] = self.widths;
         u32::from(data) * u32::from(block.bytes())
     }
@@ -94,7 +108,10 @@ pub const EMPTY: Owner = Owner::Named(2);
 
 impl Owner {
     // The root and the named streams, counted from 0.
-    pub fn live(j: u32) -> Owner {
+    pub fn live(j: u32) -> Owner
+        ensures root { j ≡ 0 → result ≡ Owner.Root }
+        ensures named { 0 < j → result ≡ Owner.Named (j - 1) }
+    {
         match j.checked_sub(1) {
             None => Owner::Root,
             Some(e) => Owner::Named(e as usize),

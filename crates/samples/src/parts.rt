@@ -1,4 +1,6 @@
 // The named fields of a card: those of the header, of descriptors, of the table, of free blocks.
+ghost use Rattle.std.specs.Prelude.{◌≡◌, vec_len};
+
 use crate::image::{Field, Image};
 use crate::owners::{Desc, Stream};
 use crate::plan::offset;
@@ -44,7 +46,9 @@ impl Part {
 
 impl Image {
     // A field of a descriptor, which may stand in the table's contents.
-    pub fn put_part(&mut self, table: &Stream, desc: Desc, part: Part, v: u64) -> Option<()> {
+    pub fn put_part(&mut self, table: &Stream, desc: Desc, part: Part, v: u64) -> Option<()>
+        ensures { vec_len self.new.bytes ≡ vec_len self.old.bytes }
+    {
         match desc {
             Desc::Header => self.put(part.field(OWN)?, v),
             Desc::Table(k) => self.put_in(table, part.field(offset(k))?, v),
@@ -59,14 +63,18 @@ impl Image {
         size: u64,
         top: u64,
         reserved: u64,
-    ) -> Option<()> {
+    ) -> Option<()>
+        ensures { vec_len self.new.bytes ≡ vec_len self.old.bytes }
+    {
         self.put_part(table, desc, Part::Size, size)?;
         self.put_part(table, desc, Part::Top, top)?;
         self.put_part(table, desc, Part::Reserved, reserved)
     }
 
     // The link of a block.
-    pub fn put_link(&mut self, block: u16, v: u64) -> Option<()> {
+    pub fn put_link(&mut self, block: u16, v: u64) -> Option<()>
+        ensures { vec_len self.new.bytes ≡ vec_len self.old.bytes }
+    {
         let at = self.block.start(block);
         self.put(Field { at, width: 4 }, v)
     }

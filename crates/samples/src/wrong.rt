@@ -1,4 +1,6 @@
 // Wrong values, the nearest ones and those that a short look takes for right (G9); `x` is the right one.
+ghost use Rattle.std.specs.Prelude.{◌≢◌, ◌<◌, ◌≤◌, IfSome, All};
+
 use crate::draws::{Draws, Value};
 
 pub const FF4: u64 = 0xffff_ffff;
@@ -27,7 +29,9 @@ impl Draws {
     }
 
     // Reserved, with blocks of `z` bytes.
-    pub fn wrong_reserved(&self, x: u32, z: u16) -> Option<u64> {
+    pub fn wrong_reserved(&self, x: u32, z: u16) -> Option<u64>
+        ensures { 0 < x → 0 < z → IfSome result (λ v. v ≢ x) }
+    {
         let x = u64::from(x);
         let z = u64::from(z);
         self.turn_of(&[
@@ -41,24 +45,32 @@ impl Draws {
     }
 
     // What is not 0, with blocks of `z` bytes.
-    pub fn not_zero(&self, z: u16) -> Option<u64> {
+    pub fn not_zero(&self, z: u16) -> Option<u64>
+        ensures { 0 < z → IfSome result (λ v. v ≢ 0) }
+    {
         self.turn_of(&[1, u64::from(z), TWO_32, TWO_63, FF8])
     }
 
     // A block in 8 bytes, on a card of `count` blocks.
-    pub fn wrong_block(&self, x: u16, count: u16) -> Option<u64> {
+    pub fn wrong_block(&self, x: u16, count: u16) -> Option<u64>
+        ensures { IfSome result (λ v. count ≤ v) }
+    {
         let values = wrong_blocks(x, count);
         let (_, others) = values.split_last()?;
         self.turn_of(others)
     }
 
     // The same, or what ends a chain.
-    pub fn wrong_block_or_none(&self, x: u16, count: u16) -> Option<u64> {
+    pub fn wrong_block_or_none(&self, x: u16, count: u16) -> Option<u64>
+        ensures { IfSome result (λ v. count ≤ v) }
+    {
         self.turn_of(&wrong_blocks(x, count))
     }
 
     // A block in a slot.
-    pub fn wrong_slot(&self, x: u16, count: u16) -> Option<u64> {
+    pub fn wrong_slot(&self, x: u16, count: u16) -> Option<u64>
+        ensures { IfSome result (λ v. count ≤ v) }
+    {
         let x = u64::from(x);
         let count = u64::from(count);
         self.turn_of(&[count, count + 1, x + TWO_31, FF4, x + TWO_16])
@@ -88,23 +100,17 @@ impl Draws {
     }
 
     // An offset in the table, which ends at `end`.
-    pub fn wrong_offset(&self, x: u32, end: u32) -> Option<u64> {
-        let x = u64::from(x);
-        self.turn_of(&[
-            x + 1,
-            x.saturating_sub(1),
-            0,
-            u64::from(end),
-            x + TWO_32,
-            FF4,
-            x + TWO_63,
-            FF8 - 1,
-        ])
+    pub fn wrong_offset(&self, x: u32, end: u32) -> Option<u64>
+        ensures { 0 < x → x < end → IfSome result (λ v. v ≢ x) }
+    {
+        self.turn_of(&wrong_offsets(x, end))
     }
 }
 
 // Blocks that are wrong in 8 bytes, and what ends a chain.
-fn wrong_blocks(x: u16, count: u16) -> [u64; 9] {
+fn wrong_blocks(x: u16, count: u16) -> [u64; 9]
+    ensures { All (λ v. count ≤ v) result }
+{
     let x = u64::from(x);
     let count = u64::from(count);
     [
@@ -117,5 +123,22 @@ fn wrong_blocks(x: u16, count: u16) -> [u64; 9] {
         x + TWO_16,
         x + TWO_24,
         FF8,
+    ]
+}
+
+// Offsets that are wrong in a table that ends at `end`.
+fn wrong_offsets(x: u32, end: u32) -> [u64; 8]
+    ensures { 0 < x → x < end → All (λ v. v ≢ x) result }
+{
+    let x = u64::from(x);
+    [
+        x + 1,
+        x.saturating_sub(1),
+        0,
+        u64::from(end),
+        x + TWO_32,
+        FF4,
+        x + TWO_63,
+        FF8 - 1,
     ]
 }

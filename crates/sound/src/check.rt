@@ -4,8 +4,8 @@ ghost use Rattle.layout.specs.Limits.{most_blocks};
 ghost use Rattle.layout.specs.Sound.{broken};
 ghost use Rattle.sound.specs.Lowest.{verdict_in, rule_in, free_in, free_of};
 
-use heading::header::{rule1, rule2, rule3, shape};
 use blocks::cut::Cut;
+use heading::header::{rule1, rule2, rule3, shape};
 use layout::answers::Rule;
 use layout::limits::MOST_BLOCKS;
 use naming::root::rule8;
@@ -53,7 +53,7 @@ pub fn check_on(card: &[u8], tab: &mut [u8], marks: &mut [u8]) -> Result<usize, 
     if !rule3(&*card) {
         return Err(Rule::Blocks);
     }
-    check_shaped(&*card, shape(&*card), tab, marks)
+    check_shaped(&*card, Cut::of(shape(&*card)), tab, marks)
 }
 
 // Any bytes, rule by rule.

@@ -6,12 +6,13 @@ use native.Mathlib.Nat.{add-zero}
 use native.Mathlib.Decide.{dec_lt}
 use native.Mathlib.Omega.{arith}
 use lib.ListN.{length, get_or, take, drop, replicate, length-append, length-take, length-drop, length-replicate, get_or-replicate, get_or-eq_default}
-use lib.Seq.{get_or-take, get_or-drop, take_all}
+use lib.Seq.{get_or-take, get_or-drop}
 use Rattle.layout.specs.Bytes.{num, bytes, over, put}
 use Rattle.layout.specs.Streams.{desc_in, data_of, tall, fields, contents, laid, table, table_bytes, offset, slots, desc_of, stream, in_table, in_stream, desc_set}
-use Rattle.laws.proofs.ByteLaws.{length-bytes, length_over, over-append, over_in, over_out, take-over}
+use Rattle.laws.proofs.ByteLaws.{length-bytes, over-append, over_in, over_out}
 use Rattle.laws.proofs.Descs.{length_fields}
 use Rattle.laws.proofs.Laying.{length-contents}
+use Rattle.memory.proofs.Parts.{over-whole}
 use Rattle.layout.specs.declared.Shape.{Shape}
 use Rattle.layout.specs.declared.Desc.{Desc}
 
@@ -70,12 +71,6 @@ page_desc l page x r e f =
 
 -- ---- in the table
 
--- written over from end to end
-pub over-whole : (l vs : List ℕ) → length vs ≡ length l → over l 0 vs ≡ vs
-over-whole l vs e =
-    let n = length_over l 0 vs in
-    sym (take_all (length l) (over l 0 vs) (omega arith)) ∙ take-over l vs (length l) (sym e) (omega arith)
-
 pub stream-read : (c page : List ℕ) (s : Shape) (k o : ℕ) (t r : Desc) → t ≡ table c s → o ≡ offset k → page ≡ over (replicate 25 0) 0 (take 25 (drop o (contents c s t.top (data_of s t) t.size)))
     → r ≡ desc_in page 0 → r ≡ stream c s k
 unfolding stream desc_of table_bytes
@@ -93,11 +88,9 @@ pub table-num : (c page : List ℕ) (s : Shape) (at r : ℕ) (t : Desc) → t �
 unfolding table_bytes
 table-num c page s at r t e f g = g ∙ page-start 8 (table_bytes c s) page at 8 (omega arith) (rw e at f)
 
-pub table-laid : (c c₁ : List ℕ) (s : Shape) (p : ℕ) (vs : List ℕ) (t : Desc) → t ≡ table c s → c₁ ≡ laid c s t.top (tall s (data_of s t)) p (take (length vs) (drop 0 vs)) → c₁ ≡ in_table c s p vs
+pub table-laid : (c c₁ : List ℕ) (s : Shape) (p : ℕ) (vs : List ℕ) (t : Desc) → t ≡ table c s → c₁ ≡ laid c s t.top (tall s (data_of s t)) p vs → c₁ ≡ in_table c s p vs
 unfolding in_table
-table-laid c c₁ s p vs t a e =
-    let x : take (length vs) vs ≡ vs = take_all (length vs) vs (omega arith) in
-    e ∙ rw (x, a)
+table-laid c c₁ s p vs t a e = e ∙ rw a
 
 pub stream-laid : (c c₁ : List ℕ) (s : Shape) (k p : ℕ) (vs : List ℕ) (t : Desc) → t ≡ stream c s k → c₁ ≡ laid c s t.top (tall s (data_of s t)) p vs → c₁ ≡ in_stream c s k p vs
 unfolding in_stream

@@ -69,7 +69,7 @@ pub fn stream(card: &[u8], s: Cut, k: usize) -> Desc
     ensures { result ≡ stream card.now s k }
 {
     let mut page = [0; 25];
-    gather_stream(card, s, table(card, s), offset(k), &mut page, 0, 25);
+    gather_stream(card, s, table(card, s), offset(k), &mut page);
     descriptor(&page, 0)
 }
 

@@ -6,7 +6,7 @@ use Prim.Native.Nat.{ℕ, ◌+◌, ◌-◌, ◌/◌, ◌%◌, ◌≤◌}
 use native.Mathlib.Nat.{div-add-mod'}
 use native.Mathlib.Decide.{dec_lt}
 use native.Mathlib.Omega.{arith}
-use lib.ListN.{take, drop, replicate, length-replicate, get_or-eq_default}
+use lib.ListN.{length, take, drop, replicate, length-replicate, get_or-eq_default}
 use lib.Dec.{eqb}
 use Rattle.layout.specs.Limits.{most_streams}
 use Rattle.layout.specs.Bytes.{pick, both, num, over, end8, separate}
@@ -40,7 +40,7 @@ slots-few c s n e f =
     (omega arith, omega arith)
 
 pub page-reads : (c : List ℕ) (s : Shape) (t : Desc) (page tab : List ℕ) → rule4 c s ≡ true → t ≡ table c s → page ≡ replicate 6408 0
-    → tab ≡ over page 0 (take 6408 (drop 0 (contents c s t.top (data_of s t) t.size))) → Reads tab (table_bytes c s)
+    → tab ≡ over page 0 (take (length page) (drop 0 (contents c s t.top (data_of s t) t.size))) → Reads tab (table_bytes c s)
 unfolding table_bytes
 page-reads c s t page tab four e f g i =
     let l = contents c s (table c s).top (data_of s (table c s)) (table c s).size in

@@ -5,13 +5,15 @@ ghost use Rattle.layout.specs.Streams.{desc_of};
 ghost use Rattle.layout.specs.Sound.{right_desc, live_form, free_form, good_form};
 
 use blocks::chain::END8;
-use layout::{Desc, Shape};
+use blocks::cut::Cut;
+use layout::Desc;
 use pyramids::pyramid::up;
 use stream::descs::descriptor;
 
-// Where the table's descriptors start, and how long each is.
+// Where the table's descriptors start.
 pub const START: usize = 8;
 
+// The bytes of a descriptor.
 pub const LENGTH: usize = 25;
 
 // Descriptor `k`, by the table's bytes.
@@ -26,8 +28,7 @@ pub fn descriptor_at(tab: &[u8], k: usize) -> Desc
 // Flags and reserved are right, and there are no more data blocks than the card has blocks. What is reserved is compared by
 // blocks and by rest, so that no product can be too large.
 #[tactic(auto, using(crate::proofs::Shaped::reserve_is), unfolding(layout::specs::Sound::right_desc))]
-pub fn right_desc(s: Shape, t: Desc) -> bool
-    requires { 64 ≤ s.size }
+pub fn right_desc(s: Cut, t: Desc) -> bool
     ensures { result ≡ right_desc s t }
 {
     let d = t.reserved / s.size;
@@ -36,8 +37,7 @@ pub fn right_desc(s: Shape, t: Desc) -> bool
 
 // The descriptor of a stream: a stream of no blocks has top 0.
 #[tactic(auto, unfolding(layout::specs::Sound::live_form))]
-pub fn live_form(s: Shape, t: Desc) -> bool
-    requires { 64 ≤ s.size }
+pub fn live_form(s: Cut, t: Desc) -> bool
     ensures { result ≡ live_form s t }
 {
     right_desc(s, t) && (t.reserved / s.size != 0 || t.top == 0)
@@ -52,8 +52,7 @@ pub fn free_form(t: Desc) -> bool
 }
 
 // Any descriptor: one with all bits of its top set is free.
-pub fn good_form(s: Shape, t: Desc) -> bool
-    requires { 64 ≤ s.size }
+pub fn good_form(s: Cut, t: Desc) -> bool
     ensures { result ≡ pick (not (eqb t.top end8)) (live_form s t) (free_form t) }
 {
     if t.top == END8 {
@@ -64,8 +63,8 @@ pub fn good_form(s: Shape, t: Desc) -> bool
 }
 
 // The first `n` descriptors in the table's bytes are well formed.
-pub fn good_forms(s: Shape, tab: &[u8], n: usize) -> bool
-    requires { (64 ≤ s.size) × (n ≤ 65536) }
+pub fn good_forms(s: Cut, tab: &[u8], n: usize) -> bool
+    requires { n ≤ 65536 }
     ensures { result ≡ all_b (good_form s tab.now) (run 0 n) }
 {
     (0..n).all(|k| good_form(s, descriptor_at(tab, k)))

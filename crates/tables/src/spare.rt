@@ -9,10 +9,9 @@ ghost use Rattle.tables.specs.Compared.{right_mark, asked, number_at, spares};
 ghost use Rattle.tables.specs.OnPage.{Reads};
 
 use crate::forms::{LENGTH, START, good_forms};
-use crate::table::LONGEST;
 use blocks::chain::END8;
-use laying::gather::gather_stream;
 use blocks::cut::Cut;
+use laying::gather::gather_stream;
 use marking::marks::mark;
 use memory::bytes::{byte, number};
 use memory::runs::clear;
@@ -20,6 +19,9 @@ use stream::descs::{descriptors, table};
 
 // Where a descriptor's top stands in it.
 const TOP: usize = 8;
+
+// The bytes of a top, and of an offset.
+const WIDTH: usize = 8;
 
 // The number of the descriptor that stands at `x` in the table, where one does.
 #[tactic(auto, unfolding(crate::specs::Compared::number_at))]
@@ -38,7 +40,7 @@ fn mark_spares(tab: &[u8], n: usize, marks: &mut [u8]) -> bool
     requires { n ≤ 65536 }
     ensures { (result ≡ mark_ok n marks.old (spares tab.now n)) × (marks.new ≡ mark_set n marks.old (spares tab.now n)) }
 {
-    let mut x = number(tab, 0, 8);
+    let mut x = number(tab, 0, WIDTH);
     for _ in 0..n + 1 {
         if x == END8 {
             return true;
@@ -49,7 +51,7 @@ fn mark_spares(tab: &[u8], n: usize, marks: &mut [u8]) -> bool
         if !mark(marks, n, k) {
             return false;
         }
-        x = number(tab, x, 8);
+        x = number(tab, x, WIDTH);
     }
     true
 }
@@ -60,7 +62,7 @@ fn is_free(tab: &[u8], k: usize) -> bool
     requires { k ≤ 65536 }
     ensures { result ≡ dead tab.now k }
 {
-    number(tab, START + LENGTH * k + TOP, 8) == END8
+    number(tab, START + LENGTH * k + TOP, WIDTH) == END8
 }
 
 // Whether descriptor `k` is live, or, if the free ones are asked for, free.
@@ -96,7 +98,7 @@ pub fn rule5(card: &[u8], s: Cut, tab: &mut [u8], marks: &mut [u8]) -> bool
     ensures { (result ≡ rule5 card.now s) × Reads tab.new (table_bytes card.now s) }
 {
     let n = descriptors(card, s);
-    gather_stream(card, s, table(card, s), 0, tab, 0, LONGEST);
+    gather_stream(card, s, table(card, s), 0, tab);
     if !good_forms(s, tab, n) {
         return false;
     }

@@ -8,15 +8,16 @@ use marking::marks::mark_surplus;
 use memory::runs::clear;
 use stream::descs::table;
 
-// The bytes of a table of 1 descriptor and of 256.
+// The bytes of a table of one descriptor.
 const SHORTEST: usize = 33;
 
+// The bytes of a table of 256 descriptors.
 pub const LONGEST: usize = 6408;
 
 // Rule 4: the table has 1 to 256 whole descriptors, its own descriptor is right, and its blocks are apart. The marks are
 // lent for the work.
 pub fn rule4(card: &[u8], s: Cut, marks: &mut [u8]) -> bool
-    requires { (s.count ≤ length marks.old) }
+    requires { s.count ≤ length marks.old }
     ensures { result ≡ rule4 card.now s }
 {
     let t = table(card, s);

@@ -14,17 +14,18 @@ use marking::marks::mark;
 fn mark_chain(card: &[u8], s: Cut, marks: &mut [u8]) -> Option<usize>
     ensures { (result ≡ pick (mark_ok s.count marks.old (chain card.now s)) (Some (length (chain card.now s))) None) × (marks.new ≡ mark_set s.count marks.old (chain card.now s)) }
 {
+    let count = s.count;
     let mut b = first_free(card, s);
-    for found in 0..s.count + 1 {
+    for found in 0..count + 1 {
         if b == END8 {
             return Some(found);
         }
-        if !mark(marks, s.count, b) {
+        if !mark(marks, count, b) {
             return None;
         }
         b = next(card, s, b);
     }
-    Some(s.count + 1)
+    Some(count + 1)
 }
 
 // How many are marked. `filter` and `count` say the same, and go a byte at a time; of this the compiler makes wide steps.
@@ -46,8 +47,9 @@ pub fn rule7(card: &[u8], s: Cut, marks: &mut [u8]) -> Option<usize>
     requires { InUse card.now s marks.old }
     ensures { result ≡ pick (rule7 card.now s) (Some (length (chain card.now s))) None }
 {
+    let count = s.count;
     let found = mark_chain(card, s, marks)?;
-    if count_marks(&marks[..s.count]) != s.count {
+    if count_marks(&marks[..count]) != count {
         return None;
     }
     Some(found)

@@ -25,7 +25,7 @@ fn mark_one(card: &[u8], s: Cut, t: Desc, marks: &mut [u8]) -> bool
 
 // Marks the blocks of the first `n` streams, by the table's bytes.
 fn mark_streams(card: &[u8], s: Cut, tab: &[u8], n: usize, marks: &mut [u8]) -> bool
-    requires { (n ≤ 65536) }
+    requires { n ≤ 65536 }
     ensures { (result ≡ mark_ok s.count marks.old (used_from card.now s tab.now 0 n)) × (marks.new ≡ mark_set s.count marks.old (used_from card.now s tab.now 0 n)) }
 {
     for k in 0..n {
@@ -38,7 +38,7 @@ fn mark_streams(card: &[u8], s: Cut, tab: &[u8], n: usize, marks: &mut [u8]) -> 
 
 // Clears the marks and marks all blocks in use: the table's, and those of its first `n` streams.
 fn mark_used(card: &[u8], s: Cut, tab: &[u8], n: usize, marks: &mut [u8]) -> bool
-    requires { (n ≤ 65536) }
+    requires { n ≤ 65536 }
     ensures { (result ≡ mark_ok s.count (over marks.old 0 (replicate s.count 0)) (table_blocks card.now s ++ used_from card.now s tab.now 0 n)) × (marks.new ≡ mark_set s.count (over marks.old 0 (replicate s.count 0)) (table_blocks card.now s ++ used_from card.now s tab.now 0 n)) }
 {
     clear(marks, 0, s.count);

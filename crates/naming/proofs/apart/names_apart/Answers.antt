@@ -11,29 +11,29 @@ loop-at-init c = record {
   paged = page_blank _ _ (sym (length-contents _ _ _ _ _));
   size = sym (length-contents _ _ _ _ _);
   filed = none_filed _;
-  rest = rest-start _ c.requires.1;
+  rest = rest-start _ c.requires;
 }
 
 pub file-requires : goal.file-requires
 file-requires c =
     let v = c.loop-at.invariant in
     let w = turned_piece _ _ _ _ _ _ _ c.turn-from.ensures v.size refl c.min.ensures in
-    (c.requires.0, rest_here _ _ _ _ v.size c.loop-at-test.true v.rest c.requires.1, w, v.filed)
+    (rest_here _ _ _ _ v.size c.loop-at-test.true v.rest c.requires, w, v.filed)
 
 pub returns-in_default : goal.returns-in_default
 returns-in_default c =
     let v = c.loop-at.invariant in
-    rest-met _ _ _ _ v.size c.loop-at-test.true v.rest c.requires.1 _ c.file.ensures.0 c.in_default.is
+    rest-met _ _ _ _ v.size c.loop-at-test.true v.rest c.requires _ c.file.ensures.0 c.in_default.is
 
 pub overflow_add-at : goal.overflow_add-at
 overflow_add-at c =
     let v = c.loop-at.invariant in
-    omega (arith, (rest-next _ _ _ _ v.size c.loop-at-test.true v.rest c.requires.1 _ c.file.ensures.0 _ c.in-Some.is).inside, c.requires.1.low)
+    omega (arith, (rest-next _ _ _ _ v.size c.loop-at-test.true v.rest c.requires _ c.file.ensures.0 _ c.in-Some.is).inside, c.requires.low)
 
 pub overflow_add-at-in-loop-at : goal.overflow_add-at-in-loop-at
 overflow_add-at-in-loop-at c =
     let v = c.loop-at.invariant in
-    omega (arith, (rest-next _ _ _ _ v.size c.loop-at-test.true v.rest c.requires.1 _ c.file.ensures.0 _ c.in-Some.is).inside, c.requires.1.low)
+    omega (arith, (rest-next _ _ _ _ v.size c.loop-at-test.true v.rest c.requires _ c.file.ensures.0 _ c.in-Some.is).inside, c.requires.low)
 
 pub loop-at-preserved : goal.loop-at-preserved
 loop-at-preserved c =
@@ -42,7 +42,7 @@ loop-at-preserved c =
       paged = c.turn-from.ensures.paged;
       size = v.size;
       filed = c.file.ensures.1 (λ z. cc);
-      rest = rest-next _ _ _ _ v.size c.loop-at-test.true v.rest c.requires.1 _ c.file.ensures.0 _ c.in-Some.is;
+      rest = rest-next _ _ _ _ v.size c.loop-at-test.true v.rest c.requires _ c.file.ensures.0 _ c.in-Some.is;
     }
 
 pub returns : goal.returns

@@ -4,4 +4,4 @@ use Rattle.usage.proofs.Chained.{Along}
 use Rattle.usage.proofs.free.mark_chain.Given as goal
 
 abbrev pub invariant-loop-found : goal.invariant-loop-found
-invariant-loop-found l = Along l.card l.s (l.s.count + 1 - l.found) l.found l.b l.marks l.initial.marks
+invariant-loop-found l = Along l.card l.s (l.count + 1 - l.found) l.found l.b l.marks l.initial.marks
