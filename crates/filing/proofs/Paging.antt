@@ -12,6 +12,7 @@ use Rattle.layout.specs.Bytes.{num, over, same}
 use Rattle.layout.specs.Filing.{name_length, entry_at}
 use Rattle.laws.proofs.ByteLaws.{over_in, length_over, take-over}
 use Rattle.stream.proofs.Fields.{num-shift}
+use Rattle.filing.specs.declared.pages.Page.{Page}
 use Rattle.filing.specs.Paged.{page_size, piece_size, piece_at, Paged, Turned}
 use Rattle.filing.proofs.Naming.{same_length}
 
@@ -68,10 +69,10 @@ module _ (r : List ℕ) (at : ℕ) where
 -- ---- a page
 
 -- nothing is on a page that starts where the bytes end
-pub page_blank : (r : List ℕ) (size : ℕ) → size ≡ length r → Paged (replicate page_size 0) size r
+pub page_blank : (r : List ℕ) (size : ℕ) → size ≡ length r → Paged (record { bytes = replicate page_size 0; from = size }) r
 page_blank r size e = record { long = length-replicate {A = ℕ} page_size 0; reads = λ i h k. absurd (omega arith) }
 
-pub page-gathered : (page page' r : List ℕ) (at : ℕ) → length page ≡ page_size → page' ≡ over page 0 (take (length page) (drop at r)) → Turned page' at at r
+pub page-gathered : (page page' r : List ℕ) (at : ℕ) → length page ≡ page_size → page' ≡ over page 0 (take (length page) (drop at r)) → Turned (record { bytes = page'; from = at }) at r
 page-gathered page page' r at long g =
     let e = rw long at g in
     let vs = take page_size (drop at r) in
@@ -82,21 +83,18 @@ page-gathered page page' r at long g =
         long = rw (e, length_over) long;
         reads = λ i h k. ap (λ (x : List ℕ). get_or x i 0) e ∙ over_in page 0 vs i i (omega arith) (omega arith) (omega arith) ∙ get_or-take page_size (drop at r) i 0 h ∙ get_or-drop at r i 0;
       };
-      low = omega arith;
-      high = omega arith;
+      on = record { low = omega arith; high = omega arith };
     }
 
 -- the piece on a page that is turned to it
-module _ (page r : List ℕ) (from at size o m : ℕ) (w : Turned page from at r) (long : size ≡ length r) (a : o ≡ at - from) (b : m ≡ min piece_size (size - at)) where
-  pub turned_fits : o + m ≤ length page
-  turned_fits = omega (arith, w.low, w.high, w.paged.long)
-
-  pub turned_piece : take (o + m - o) (drop o page) ≡ piece_at r at
-  turned_piece =
-      let z : o + m - o ≡ m = omega arith in
-      let l : length (take m (drop o page)) ≡ m = rw (length-take, length-drop) (omega (arith, turned_fits)) in
-      let l' : length (piece_at r at) ≡ m = rw length_piece (omega arith) in
-      rw z (ext_get_or 0 (take m (drop o page)) (piece_at r at) (l ∙ sym l') (λ i k.
-      let c : from + (o + i) ≡ at + i = omega (arith, w.low) in
-      get_or-take m (drop o page) i 0 (omega arith) ∙ get_or-drop o page i 0 ∙ w.paged.reads (o + i) (omega (arith, turned_fits, w.paged.long)) (omega (arith, w.low))
-      ∙ ap (λ (x : ℕ). get_or r x 0) c ∙ sym (piece_byte r at i (omega arith))))
+pub turned_piece : (page : Page) (r : List ℕ) (at size m : ℕ) (w : Turned page at r) (long : size ≡ length r) (b : m ≡ min piece_size (size - at)) → take (at - page.from + m - (at - page.from)) (drop (at - page.from) page.bytes) ≡ piece_at r at
+turned_piece page r at size m w long b =
+    let o = at - page.from in
+    let fits : o + m ≤ length page.bytes = omega (arith, w.on.low, w.on.high, w.paged.long) in
+    let z : o + m - o ≡ m = omega arith in
+    let l : length (take m (drop o page.bytes)) ≡ m = rw (length-take, length-drop) (omega (arith, fits)) in
+    let l' : length (piece_at r at) ≡ m = rw length_piece (omega arith) in
+    rw z (ext_get_or 0 (take m (drop o page.bytes)) (piece_at r at) (l ∙ sym l') (λ i k.
+    let c : page.from + (o + i) ≡ at + i = omega (arith, w.on.low) in
+    get_or-take m (drop o page.bytes) i 0 (omega arith) ∙ get_or-drop o page.bytes i 0 ∙ w.paged.reads (o + i) (omega (arith, fits, w.paged.long)) (omega (arith, w.on.low))
+    ∙ ap (λ (x : ℕ). get_or r x 0) c ∙ sym (piece_byte r at i (omega arith))))

@@ -6,7 +6,7 @@ ghost use Rattle.layout.specs.Filing.{name_length, entries, entries_of};
 ghost use Rattle.filing.specs.Located.{located};
 
 use crate::names::name_is;
-use crate::pages::{PAGE, PIECE, turn};
+use crate::pages::Page;
 use blocks::cut::Cut;
 use layout::Desc;
 use memory::bytes::number;
@@ -46,20 +46,17 @@ pub fn find(card: &[u8], s: Cut, t: Desc, name: &[u8]) -> Option<Found>
     ensures { result ≡ located (entries (contents card.now s t.top (data_of s t) t.size)) name.now 0 }
 {
     let size = t.size;
-    let mut page = [0; PAGE];
-    // Nothing is on the page yet.
-    let mut from = size;
+    let mut page = Page::blank(t);
     let mut at = 0;
     // No more entries than bytes: the step is the entry's own length, which its page tells.
     for number in 0..size {
         if size <= at {
             break;
         }
-        from = turn(&*card, s, t, &mut page, from, at);
-        let o = at - from;
-        let e = o + PIECE.min(size - at);
-        let h = read_head(&page[o..e]);
-        if name_is(&page[o..e], &*name) {
+        page.turn(card, s, t, at);
+        let piece = page.piece(t, at);
+        let h = read_head(piece);
+        if name_is(piece, name) {
             return Some(Found {
                 number,
                 index: h.index,

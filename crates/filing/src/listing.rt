@@ -5,7 +5,7 @@ ghost use Rattle.layout.specs.Filing.{entries};
 ghost use Rattle.filing.specs.Located.{numbered};
 
 use crate::entries::{HEAD, read_head};
-use crate::pages::{PAGE, PIECE, turn};
+use crate::pages::Page;
 use blocks::cut::Cut;
 use layout::Desc;
 
@@ -24,19 +24,15 @@ pub fn nth_entry(card: &[u8], s: Cut, t: Desc, n: usize) -> Option<Row>
     ensures at { IfSome result (λ row. row.at ≤ t.size) }
 {
     let size = t.size;
-    let mut page = [0; PAGE];
-    // Nothing is on the page yet.
-    let mut from = size;
+    let mut page = Page::blank(t);
     let mut at = 0;
     // No more entries than bytes, as in `find`.
     for k in 0..size {
         if size <= at {
             break;
         }
-        from = turn(&*card, s, t, &mut page, from, at);
-        let o = at - from;
-        let e = o + PIECE.min(size - at);
-        let h = read_head(&page[o..e]);
+        page.turn(card, s, t, at);
+        let h = read_head(page.piece(t, at));
         if k == n {
             return Some(Row {
                 index: h.index,

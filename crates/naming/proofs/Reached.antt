@@ -1,5 +1,6 @@
 -- Rule 8: an entry tested and its stream marked, one after the other, and the definition.
 use mathlib.Core.Path.{◌≡◌, refl, sym, ap, ◌∙◌}
+use mathlib.Core.Logic.{◌≢◌}
 use mathlib.Core.Bool.{Bool, true, false}
 use mathlib.Core.List.{List, [], ◌∷◌, map}
 use Prim.Native.Nat.{ℕ, zero, suc, ◌+◌, ◌-◌, ◌*◌, ◌^◌, min, ◌≤◌, ◌<◌}
@@ -8,6 +9,7 @@ use native.Mathlib.Omega.{arith}
 use lib.ListN.{length, set, replicate, length-map}
 use lib.Dec.{leb, T}
 use Rattle.std.specs.Prelude.{Option, Some, None}
+use Rattle.std.proofs.lemmas.Option.{none-some}
 use Rattle.layout.specs.Limits.{most_streams}
 use Rattle.layout.specs.Bytes.{pick, both, num, over, run, those, all_b}
 use Rattle.layout.specs.Marks.{fresh, mark_ok, mark_set}
@@ -72,7 +74,7 @@ module _ (r : List ℕ) (at : ℕ) (p : List ℕ) (e : p ≡ piece_at r at) (ins
   pub entry-same : (n : ℕ) (m : List ℕ) (x : Option ℕ) → x ≡ pick (both (good_at p 0) (fresh n m (num 4 p 0))) (Some (name_length p 0)) None → x ≡ pick (both (good_at r at) (fresh n m (num 4 r at))) (Some (name_length r at)) None
   entry-same n m x f = f ∙ (λ j. pick (both (good_same j) (fresh n m (i_is j))) (Some (n_is j)) None)
 
-  pub entry-marked : (m m' : List ℕ) → m' ≡ set m (num 4 p 0) 1 → m' ≡ set m (num 4 r at) 1
+  entry-marked : (m m' : List ℕ) → m' ≡ set m (num 4 p 0) 1 → m' ≡ set m (num 4 r at) 1
   entry-marked m m' f = f ∙ ap (λ (k : ℕ). set m k 1) i_is
 
 -- ---- one after the other
@@ -123,7 +125,7 @@ module _ (r : List ℕ) (n : ℕ) (m₀ : List ℕ) where
               by false o = o
           go false f a o = o
 
-      pub left_turn : (len : ℕ) (m' : List ℕ) → x ≡ Some len → m' ≡ set m (num 4 r at) 1 → Left m' (at + (6 + len))
+      left_turn : (len : ℕ) (m' : List ℕ) → x ≡ Some len → m' ≡ set m (num 4 r at) 1 → Left m' (at + (6 + len))
       left_turn len m' z g = go (good_at r at) (fresh n m (num 4 r at)) (sym e ∙ z) (λ t. (parts r at t).0) opened opened_set
         where
           go : (a f : Bool) → pick (both a f) (Some (name_length r at)) None ≡ Some len → (T a → next ≤ length r)
@@ -136,6 +138,12 @@ module _ (r : List ℕ) (n : ℕ) (m₀ : List ℕ) where
               rw (y, g) (record { inside = b tt; ok = o; marks = p })
           go true false a b o p = absurd (cc)
           go false f a b o p = absurd (cc)
+
+-- the entry in front of a piece is marked
+pub left-next : (r : List ℕ) (n : ℕ) (m₀ m : List ℕ) (at : ℕ) (v : Left r n m₀ m at) (size : ℕ) → size ≡ length r → at < size → (p : List ℕ) → p ≡ piece_at r at
+    → (x : Option ℕ) → x ≡ pick (both (good_at p 0) (fresh n m (num 4 p 0))) (Some (name_length p 0)) None → (m' : List ℕ) → (x ≢ None → m' ≡ set m (num 4 p 0) 1) → (len : ℕ) → x ≡ Some len → Left r n m₀ m' (at + (6 + len))
+left-next r n m₀ m at v size long h p w x e m' f len z =
+    left_turn r n m₀ m at v size long h x (entry-same r at p w v.inside n m x e) len m' z (entry-marked r at p w v.inside m m' (f (λ y. none-some len (sym y ∙ z))))
 
 pub not_both : {A : Type 0} → false ≡ true → A
 not_both z = let a : ◌≡◌ {A = ℕ} 0 1 = ap (λ (b : Bool). pick b 1 0) z in absurd (omega arith)

@@ -8,7 +8,7 @@ ghost use Rattle.naming.specs.Rooted.{bytes_of, Tidy, Here};
 
 use blocks::cut::Cut;
 use filing::entries::{HEAD, read_head};
-use filing::pages::{PAGE, PIECE, name_at, turn};
+use filing::pages::{Page, name_at};
 use layout::Desc;
 
 // How many buckets there are.
@@ -108,15 +108,12 @@ pub fn names_apart(card: &[u8], s: Cut, t: Desc) -> bool
         last: [None; BUCKETS],
         links: [none; ENTRIES],
     };
-    let mut page = [0; PAGE];
-    let mut from = t.size;
+    let mut page = Page::blank(t);
     let mut at = 0;
     let mut i = 0;
     while at < t.size {
-        from = turn(card, s, t, &mut page, from, at);
-        let o = at - from;
-        let e = o + PIECE.min(t.size - at);
-        let Some(n) = buckets.file(card, s, t, &page[o..e], at, i) else {
+        page.turn(card, s, t, at);
+        let Some(n) = buckets.file(card, s, t, page.piece(t, at), at, i) else {
             return false;
         };
         at += HEAD + n;

@@ -13,7 +13,7 @@ use crate::apart::names_apart;
 use blocks::cut::Cut;
 use filing::entries::{HEAD, read_head};
 use filing::names::good_name;
-use filing::pages::{PAGE, PIECE, turn};
+use filing::pages::Page;
 use layout::Desc;
 use marking::marks::mark;
 use memory::runs::clear;
@@ -39,14 +39,11 @@ fn mark_entry(piece: &[u8], n: usize, marks: &mut [u8]) -> Option<usize>
 fn mark_entries(card: &[u8], s: Cut, t: Desc, n: usize, marks: &mut [u8]) -> bool
     ensures { (result ≡ both (tidy_from (bytes_of card.now s t) 0) (mark_ok n marks.old (indices (entries (bytes_of card.now s t))))) × (result ≡ true → marks.new ≡ mark_set n marks.old (indices (entries (bytes_of card.now s t)))) }
 {
-    let mut page = [0; PAGE];
-    let mut from = t.size;
+    let mut page = Page::blank(t);
     let mut at = 0;
     while at < t.size {
-        from = turn(card, s, t, &mut page, from, at);
-        let o = at - from;
-        let e = o + PIECE.min(t.size - at);
-        let Some(length) = mark_entry(&page[o..e], n, marks) else {
+        page.turn(card, s, t, at);
+        let Some(length) = mark_entry(page.piece(t, at), n, marks) else {
             return false;
         };
         at += HEAD + length;

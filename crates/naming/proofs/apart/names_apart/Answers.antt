@@ -1,14 +1,13 @@
 -- `naming::apart::names_apart` keeps its promise.
-use mathlib.Core.Path.{refl, sym}
+use mathlib.Core.Path.{sym}
 use native.Mathlib.Omega.{arith}
 use Rattle.laws.proofs.Laying.{length-contents}
-use Rattle.filing.proofs.Paging.{page_blank, turned_piece}
 use Rattle.naming.proofs.Differ.{none_filed, rest-start, rest_end, rest_here, rest-met, rest-next}
 use Rattle.naming.proofs.apart.names_apart.Goals as goal
 
 pub loop-at-init : goal.loop-at-init
 loop-at-init c = record {
-  paged = page_blank _ _ (sym (length-contents _ _ _ _ _));
+  paged = c.blank-page.ensures _ (sym (length-contents _ _ _ _ _));
   size = sym (length-contents _ _ _ _ _);
   filed = none_filed _;
   rest = rest-start _ c.requires;
@@ -17,7 +16,7 @@ loop-at-init c = record {
 pub file-requires : goal.file-requires
 file-requires c =
     let v = c.loop-at.invariant in
-    let w = turned_piece _ _ _ _ _ _ _ c.turn-from.ensures v.size refl c.min.ensures in
+    let w = c.piece.ensures _ c.turn.ensures v.size in
     (rest_here _ _ _ _ v.size c.loop-at-test.true v.rest c.requires, w, v.filed)
 
 pub returns-in_default : goal.returns-in_default
@@ -39,7 +38,7 @@ pub loop-at-preserved : goal.loop-at-preserved
 loop-at-preserved c =
     let v = c.loop-at.invariant in
     record {
-      paged = c.turn-from.ensures.paged;
+      paged = c.turn.ensures.paged;
       size = v.size;
       filed = c.file.ensures.1 (λ z. cc);
       rest = rest-next _ _ _ _ v.size c.loop-at-test.true v.rest c.requires _ c.file.ensures.0 _ c.in-Some.is;

@@ -11,7 +11,7 @@ use Rattle.naming.proofs.apart.names_apart.Given as goal
 
 abbrev pub invariant-loop-at : goal.invariant-loop-at
 invariant-loop-at l = record {
-  paged : Paged l.page l.from (bytes_of l.card l.s l.t);
+  paged : Paged l.page (bytes_of l.card l.s l.t);
   size : l.t.size ≡ length (bytes_of l.card l.s l.t);
   filed : Filed (entries (bytes_of l.card l.s l.t)) l.i l.buckets;
   rest : Rest (bytes_of l.card l.s l.t) l.at l.i;

@@ -9,7 +9,7 @@ use Rattle.naming.proofs.root.mark_entries.Given as goal
 
 abbrev pub invariant-loop-at : goal.invariant-loop-at
 invariant-loop-at l = record {
-  paged : Paged l.page l.from (bytes_of l.card l.s l.t);
+  paged : Paged l.page (bytes_of l.card l.s l.t);
   size : l.t.size ≡ length (bytes_of l.card l.s l.t);
   left : Left (bytes_of l.card l.s l.t) l.n l.initial.marks l.marks l.at;
 }
