@@ -29,6 +29,10 @@ pub fn place(s: Shape, b: usize) -> usize
 pub fn start(s: Cut, b: usize) -> usize
     ensures { result ≡ min (place s b) 18446744073709551615 }
 {
+    // The second case alone would do; but every number that a slot holds is below, and this is one product in place of two.
+    if b < FAR {
+        return s.base + b * s.size;
+    }
     b.saturating_mul(s.size).saturating_add(s.base)
 }
 
@@ -49,7 +53,7 @@ pub fn slot(card: &[u8], s: Cut, b: usize, j: usize) -> usize
     requires { j ≤ 4294967296 }
     ensures { (result ≡ slot card.now s b j) × (result < 256 ^ 4) }
 {
-    index(&*card, s.base, s.size, b, j)
+    number(&*card, start(s, b).saturating_add(4 * j), 4)
 }
 
 // `v` as index `j` of block `b`.
