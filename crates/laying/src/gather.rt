@@ -16,8 +16,14 @@ use memory::runs::fetch;
 fn gather_block(card: &[u8], s: Cut, b: usize, r: usize, tray: &mut [u8])
     ensures { tray.new ≡ window card.now (place s b + r) (length tray.old) }
 {
+    let from = start(s, b).saturating_add(r);
     let n = tray.len();
-    fetch(tray, 0, &*card, start(s, b).saturating_add(r), n);
+    // Where all of them are there it is one copy, with nothing cut at either end.
+    if from <= card.len() && n <= card.len() - from {
+        tray.copy_from_slice(&card[from..from + n]);
+        return;
+    }
+    fetch(tray, 0, &*card, from, n);
 }
 
 // The blocks that `block` names by their numbers, from byte `r` of block `i` on, fill `tray`.

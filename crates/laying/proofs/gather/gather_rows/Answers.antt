@@ -1,6 +1,6 @@
 -- `laying::gather::gather_rows` keeps its promise.
 use mathlib.Core.Path.{ap, ◌∙◌}
-use Prim.Native.Nat.{◌<◌, ◌+◌, ◌*◌}
+use Prim.Native.Nat.{◌<◌, ◌+◌, ◌-◌, ◌*◌}
 use native.Mathlib.Nat.{mod-lt}
 use native.Mathlib.Omega.{arith}
 use Rattle.std.proofs.Common.{rules}
@@ -31,7 +31,7 @@ loop-q-preserved c =
     let m = rw (size, c.fan-f.ensures.0) at c.min-m.ensures in
     let f = gathered a.card.now a.s (slot a.card.now a.s c.node-b.result) (c.loop-q.i * a.s.size + c.loop-q.r) in
     let done =
-    filled _ _ _ _ c.min-m.result f (length-gathered a.card.now a.s (slot a.card.now a.s c.node-b.result) (c.loop-q.i * a.s.size + c.loop-q.r)) (omega arith) (omega arith)
+    filled c.loop-q.tray c.gather_blocks.new.tray c.loop-q.to (c.loop-q.to + c.min-m.result - c.loop-q.to) c.min-m.result f (length-gathered a.card.now a.s (slot a.card.now a.s c.node-b.result) (c.loop-q.i * a.s.size + c.loop-q.r)) (omega arith) (omega arith)
     (c.gather_blocks.ensures (slot a.card.now a.s c.node-b.result) (λ k x e. search rules)) in (
       fan_pos _ (omega (arith, size)),
       some,
