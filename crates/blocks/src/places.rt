@@ -29,7 +29,7 @@ pub fn place(s: Shape, b: usize) -> usize
 pub fn start(s: Cut, b: usize) -> usize
     ensures { result ≡ min (place s b) 18446744073709551615 }
 {
-    // The second case alone would do; but every number that a slot holds is below, and this is one product in place of two.
+    // The last line alone would do; but every number that a slot holds is below, and is then one product, and no overflow is looked for.
     if b < FAR {
         return s.base + b * s.size;
     }
