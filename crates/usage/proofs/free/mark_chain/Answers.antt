@@ -12,10 +12,14 @@ pub returns-then-b : goal.returns-then-b
 returns-then-b c = chain-ends _ _ _ _ _ _ _ c.loop-found.invariant c.if-b.true
 
 pub returns-then-not-mark : goal.returns-then-not-mark
-returns-then-not-mark c = chain_stops _ _ _ _ _ _ _ c.loop-found.invariant (c.s.inside.count - c.loop-found.found) (omega arith) c.if-b.false _ refl _ _ (rw (ap (λ s. s.count) c.s.view_is) at c.mark.ensures.0) (rw (ap (λ s. s.count) c.s.view_is) at c.mark.ensures.1) c.if-not-mark.true
+returns-then-not-mark c =
+    let marked = rw (ap (λ s. s.count) c.s.view_is) at c.mark.ensures in
+    chain_stops _ _ _ _ _ _ _ c.loop-found.invariant (c.s.inside.count - c.loop-found.found) (omega arith) c.if-b.false _ refl _ _ marked.0 marked.1 c.if-not-mark.true
 
 pub loop-found-preserved : goal.loop-found-preserved
-loop-found-preserved c = chain-turn _ _ _ _ _ _ _ c.loop-found.invariant _ (omega arith) c.if-b.false _ c.next-b.ensures _ _ (rw (ap (λ s. s.count) c.s.view_is) at c.mark.ensures.0) (rw (ap (λ s. s.count) c.s.view_is) at c.mark.ensures.1) c.if-not-mark.false
+loop-found-preserved c =
+    let marked = rw (ap (λ s. s.count) c.s.view_is) at c.mark.ensures in
+    chain-turn _ _ _ _ _ _ _ c.loop-found.invariant _ (omega arith) c.if-b.false _ c.next-b.ensures _ _ marked.0 marked.1 c.if-not-mark.false
 
 pub returns : goal.returns
 returns c = chain_out _ _ _ _ _ _ _ c.loop-found.invariant (omega arith) _ (omega arith)

@@ -20,10 +20,12 @@ slice_bounds-count_marks-end-2 c =
 
 pub returns-then-count_marks-count : goal.returns-then-count_marks-count
 returns-then-count_marks-count c =
+    let count = ap (λ s. s.count) c.s.view_is in
     let long : c.args.s.count ≤ length c.mark_chain.new.marks = omega (arith, marks-long _ _ _ c.requires) in
-    some-over _ _ _ _ _ c.requires c.mark_chain.ensures _ c.in_ok-found.was _ (rw (ap (λ s. s.count) c.s.view_is) at c.count_marks.ensures) long (rw (ap (λ s. s.count) c.s.view_is) at c.if-count_marks-count.true)
+    some-over _ _ _ _ _ c.requires c.mark_chain.ensures _ c.in_ok-found.was _ (rw count at c.count_marks.ensures) long (rw count at c.if-count_marks-count.true)
 
 pub returns : goal.returns
 returns c =
+    let count = ap (λ s. s.count) c.s.view_is in
     let long : c.args.s.count ≤ length c.mark_chain.new.marks = omega (arith, marks-long _ _ _ c.requires) in
-    none_over _ _ _ _ _ c.requires c.mark_chain.ensures _ c.in_ok-found.was _ (rw (ap (λ s. s.count) c.s.view_is) at c.count_marks.ensures) long (rw (ap (λ s. s.count) c.s.view_is) at c.if-count_marks-count.false)
+    none_over _ _ _ _ _ c.requires c.mark_chain.ensures _ c.in_ok-found.was _ (rw count at c.count_marks.ensures) long (rw count at c.if-count_marks-count.false)
