@@ -1,13 +1,13 @@
 -- Places: one above every number of 64 bits is past the end of every card, so code may stop at the highest.
 use mathlib.Core.Path.{◌≡◌, sym, ◌∙◌}
 use mathlib.Core.List.{List}
-use Prim.Native.Nat.{ℕ, ◌/◌, min, ◌≤◌, ◌<◌}
+use Prim.Native.Nat.{ℕ, ◌+◌, ◌*◌, ◌/◌, min, ◌≤◌, ◌<◌}
 use native.Mathlib.Nat.{min-eq_left, le-div_iff_mul-le}
 use native.Mathlib.Decide.{dec_lt}
 use native.Mathlib.Omega.{arith}
 use lib.ListN.{length, replicate}
 use Rattle.layout.specs.Bytes.{num, bytes, over, put}
-use Rattle.layout.specs.Blocks.{place, first_free, next, taken}
+use Rattle.layout.specs.Blocks.{place, slot, first_free, next, taken}
 use Rattle.laws.proofs.ByteLaws.{num_past, over_past}
 use Rattle.layout.specs.declared.Shape.{Shape}
 
@@ -33,6 +33,12 @@ module _ (c : List ℕ) (whole : length c ≤ cap) (x m : ℕ) (e : m ≡ min x 
   pub put-near : (n v : ℕ) → put n c m v ≡ put n c x v
   unfolding put
   put-near n v = over-near (bytes n v)
+
+pub slot-near : (c : List ℕ) → length c ≤ cap → (s : Shape) (b at j : ℕ) → at ≡ min (place s b) cap → num 4 c (at + 4 * j) ≡ slot c s b j
+slot-near c whole s b at j e = elim (dec_lt (place s b) cap) [
+  | yes k ↦ rw (e, min-eq_left {n = place s b} {m = cap} (omega arith))
+  | no k ↦ num_past 4 c (at + 4 * j) (omega arith) ∙ sym (num_past 4 c (place s b + 4 * j) (omega arith))
+]
 
 pub taken_is : (c : List ℕ) (s : Shape) → length c ≤ cap → {b n p : ℕ} {c₁ c₂ : List ℕ} → b ≡ first_free c s → n ≡ next c s b → p ≡ min (place s b) cap → c₁ ≡ over c p (replicate s.size 0)
     → c₂ ≡ put 8 c₁ s.first n → c₂ ≡ taken c s

@@ -9,7 +9,7 @@ use pyramids::pyramid::above;
 
 // Data block `j` of the pyramid of height `h` that starts at block `b`. It takes one level at a call, and ends at height zero.
 pub fn reader(card: &[u8], base: usize, size: usize, b: usize, h: usize, j: usize) -> usize
-    requires { 64 ≤ size }
+    requires { (base ≤ 1024) × (64 ≤ size) × (size ≤ 4096) }
     ensures { result ≡ node card.now (plain_shape base size) b h j }
 {
     if h == 0 {

@@ -7,16 +7,17 @@ ghost use Rattle.laying.specs.Gathered.{gathered};
 
 use crate::levels::levels;
 use blocks::cut::Cut;
-use blocks::places::{fan, slot, start};
+use blocks::places::{byte_place, fan, slot_at, start};
 use blocks::reader::node;
 use layout::Desc;
 use memory::runs::fetch;
 
 // The bytes of block `b` from its byte `r` on fill `tray`.
 fn gather_block(card: &[u8], s: Cut, b: usize, r: usize, tray: &mut [u8])
+    requires { r ≤ 4096 }
     ensures { tray.new ≡ window card.now (place s b + r) (length tray.old) }
 {
-    let from = start(s, b).saturating_add(r);
+    let from = byte_place(s, b, r);
     let n = tray.len();
     // Where all of them are there it is one copy, with nothing cut at either end.
     if from <= card.len() && n <= card.len() - from {
@@ -73,11 +74,11 @@ fn gather_rows(card: &[u8], s: Cut, top: usize, h: usize, p: usize, tray: &mut [
             return;
         }
         let m = ((f - i) * size - r).min(n - to);
-        let b = node(&*card, s, top, h - 1, q);
+        let row = start(s, node(&*card, s, top, h - 1, q));
         gather_blocks(
             &*card,
             s,
-            |k| slot(&*card, s, b, k),
+            |k| slot_at(&*card, row, k),
             i,
             r,
             &mut tray[to..to + m],

@@ -6,16 +6,17 @@ ghost use Rattle.layout.specs.Streams.{data_of, tall, laid_row, laid};
 
 use crate::levels::levels;
 use blocks::cut::Cut;
-use blocks::places::{fan, slot, start};
+use blocks::places::{byte_place, fan, slot_at, start};
 use blocks::reader::node;
 use layout::Desc;
 use memory::runs::copy;
 
 // The bytes `part` go into block `b` from its byte `r` on.
 fn lay_block(card: &mut [u8], s: Cut, b: usize, r: usize, part: &[u8])
+    requires { r < 2 ^ 62 }
     ensures { card.new ≡ over card.old (place s b + r) part.now }
 {
-    let at = start(s, b).saturating_add(r);
+    let at = byte_place(s, b, r);
     let n = part.len();
     // As in `gather_block`.
     if at <= card.len() && n <= card.len() - at {
@@ -31,6 +32,7 @@ fn lay_row(card: &mut [u8], s: Cut, b: usize, i: usize, r: usize, given: &[u8])
     ensures { card.new ≡ laid_row (length given.now) card.old s b i r given.now }
 {
     let size = s.size;
+    let row = start(s, b);
     let mut at = r;
     let mut rest = given;
     // No more blocks than bytes. How many it takes to reach the last byte only a division tells, which would cost more than a block.
@@ -39,7 +41,7 @@ fn lay_row(card: &mut [u8], s: Cut, b: usize, i: usize, r: usize, given: &[u8])
             return;
         }
         let (part, after) = rest.split_at((size - at).min(rest.len()));
-        lay_block(card, s, slot(card, s, b, k), at, part);
+        lay_block(card, s, slot_at(card, row, k), at, part);
         at = 0;
         rest = after;
     }

@@ -13,4 +13,4 @@ unfolding node
 returns-then-h-eq0 t c = grind (arith, common_steps)
 
 pub returns : goal.returns
-returns t c = node_down _ _ (fan_two _ c.requires) _ _ _ _ _ _ _ (pos_of_ne-zero c.if-h-eq0.false) c.above.ensures.0 refl c.index-below.ensures.0 c.reader.ensures
+returns t c = node_down _ _ (fan_two _ c.requires.1) _ _ _ _ _ _ _ (pos_of_ne-zero c.if-h-eq0.false) c.above.ensures.0 refl c.index-below.ensures.0 c.reader.ensures

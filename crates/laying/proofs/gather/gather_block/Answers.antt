@@ -10,7 +10,7 @@ use Rattle.laying.proofs.gather.gather_block.Goals as goal
 pub returns-then-n-card : goal.returns-then-n-card
 returns-then-n-card c =
     let card = c.args.card.now in
-    let from = c.saturating_add-from.result in
+    let from = c.byte_place-from.result in
     let n = length c.args.tray.now in
     let k : from + n - from ≡ n = omega arith in
     let inside : take (from + n - from) (drop from card) ≡ window card from n = rw k (sym (window-inside card from n (omega arith))) in

@@ -11,7 +11,7 @@ use Rattle.laying.proofs.lay.lay_block.Goals as goal
 pub returns-then-n-card : goal.returns-then-n-card
 returns-then-n-card c =
     let card = c.args.card.now in
-    let at = c.saturating_add-at.result in
+    let at = c.byte_place-at.result in
     let n = length c.args.part.now in
     let k : at + n - at ≡ n = omega arith in
     let near = over-near card (omega arith) (place c.args.s c.args.b + c.args.r) at (omega arith) c.args.part.now in
