@@ -17,8 +17,14 @@ fn gather_block(card: &[u8], s: Cut, b: usize, r: usize, tray: &mut [u8])
     requires { r ≤ 4096 }
     ensures { tray.new ≡ window card.now (place s b + r) (length tray.old) }
 {
+    let from = byte_place(s, b, r);
     let n = tray.len();
-    fetch(tray, 0, &*card, byte_place(s, b, r), n);
+    // Where all of them are there it is one copy, with nothing cut at either end.
+    if from <= card.len() && n <= card.len() - from {
+        tray.copy_from_slice(&card[from..from + n]);
+        return;
+    }
+    fetch(tray, 0, &*card, from, n);
 }
 
 // The blocks that `block` names by their numbers, from byte `r` of block `i` on, fill `tray`.

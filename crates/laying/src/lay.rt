@@ -16,7 +16,14 @@ fn lay_block(card: &mut [u8], s: Cut, b: usize, r: usize, part: &[u8])
     requires { r < 2 ^ 62 }
     ensures { card.new ≡ over card.old (place s b + r) part.now }
 {
-    copy(card, byte_place(s, b, r), part, 0, part.len());
+    let at = byte_place(s, b, r);
+    let n = part.len();
+    // As in `gather_block`.
+    if at <= card.len() && n <= card.len() - at {
+        card[at..at + n].copy_from_slice(part);
+        return;
+    }
+    copy(card, at, part, 0, n);
 }
 
 // The bytes `given` go into the blocks that the slots of block `b` name, from byte `r` of slot `i`'s block on.

@@ -1,6 +1,6 @@
 -- `laying::gather::gather_blocks` keeps its promise.
 use mathlib.Core.Path.{ap, ◌∙◌}
-use Prim.Native.Nat.{◌+◌}
+use Prim.Native.Nat.{◌+◌, ◌-◌}
 use native.Mathlib.Omega.{arith}
 use Rattle.layout.specs.Bytes.{window}
 use Rattle.layout.specs.Blocks.{place}
@@ -17,7 +17,7 @@ loop-to-preserved g c =
     let size = ap (λ s. s.size) c.s.view_is in
     let m = rw size at c.min-m.ensures in
     let x = place c.args.s c.block.result + c.loop-to.from in
-    let done = filled _ _ _ _ c.min-m.result (window c.args.card.now x) (length-window c.args.card.now x) (omega arith) (omega arith) c.gather_block.ensures in (
+    let done = filled c.loop-to.tray c.gather_block.new.tray c.loop-to.to (c.loop-to.to + c.min-m.result - c.loop-to.to) c.min-m.result (window c.args.card.now x) (length-window c.args.card.now x) (omega arith) (omega arith) c.gather_block.ensures in (
       omega (arith, size),
       omega (arith, m, i.0),
       omega arith,

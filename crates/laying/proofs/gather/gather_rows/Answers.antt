@@ -1,6 +1,6 @@
 -- `laying::gather::gather_rows` keeps its promise.
 use mathlib.Core.Path.{◌≡◌, ap, ◌∙◌}
-use Prim.Native.Nat.{ℕ, ◌<◌, ◌+◌, ◌*◌}
+use Prim.Native.Nat.{ℕ, ◌<◌, ◌+◌, ◌-◌, ◌*◌}
 use native.Mathlib.Nat.{mod-lt}
 use native.Mathlib.Omega.{arith}
 use Rattle.std.proofs.Common.{rules}
@@ -33,7 +33,7 @@ loop-q-preserved c =
     let named : (k x : ℕ) → x ≡ num 4 a.card.now (c.start-row.result + 4 * k) → x ≡ slot a.card.now a.s c.node.result k = λ k x e. e ∙ slot-near a.card.now (omega arith) a.s c.node.result _ k c.start-row.ensures in
     let f = gathered a.card.now a.s (slot a.card.now a.s c.node.result) (c.loop-q.i * a.s.size + c.loop-q.r) in
     let done =
-    filled _ _ _ _ c.min-m.result f (length-gathered a.card.now a.s (slot a.card.now a.s c.node.result) (c.loop-q.i * a.s.size + c.loop-q.r)) (omega arith) (omega arith)
+    filled c.loop-q.tray c.gather_blocks.new.tray c.loop-q.to (c.loop-q.to + c.min-m.result - c.loop-q.to) c.min-m.result f (length-gathered a.card.now a.s (slot a.card.now a.s c.node.result) (c.loop-q.i * a.s.size + c.loop-q.r)) (omega arith) (omega arith)
     (c.gather_blocks.ensures (slot a.card.now a.s c.node.result) (λ k x e. named k x (search rules))) in (
       fan_pos _ (omega (arith, size)),
       some,
