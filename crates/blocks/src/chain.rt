@@ -3,8 +3,8 @@ ghost use Rattle.std.specs.Prelude.{◌≡◌};
 ghost use Rattle.layout.specs.Blocks.{wide, narrow, first_free, next, enough, taken};
 
 use crate::cut::Cut;
-use layout::Shape;
 use crate::places::{slot, start};
+use layout::Shape;
 use memory::bytes::{number, put_number};
 use memory::runs::clear;
 
@@ -29,6 +29,7 @@ pub fn narrowed(b: usize) -> usize
     if b == END8 { END4 } else { b }
 }
 
+// The first free block, on any shape: its promise asks for no small number.
 pub fn first_free(card: &[u8], s: Shape) -> usize
     ensures { result ≡ first_free card.now s }
 {

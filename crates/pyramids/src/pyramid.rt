@@ -34,7 +34,7 @@ pub fn above(f: usize, k: usize, j: usize) -> usize
     n
 }
 
-// The levels above `d` data blocks.
+// The levels above `d` data blocks. No `for`: the level that has one block ends it, and no number is counted to.
 pub fn height(f: usize, d: usize) -> usize
     requires { 2 ≤ f }
     ensures { (result ≡ height f d) × (result ≤ d) }
@@ -48,7 +48,7 @@ pub fn height(f: usize, d: usize) -> usize
     h
 }
 
-// P(d): all blocks of a pyramid over `d` data blocks.
+// P(d): all blocks of a pyramid over `d` data blocks, level by level as in `height`.
 pub fn needed(f: usize, d: usize) -> usize
     requires { (4 ≤ f) × (d < 2 ^ 62) }
     ensures { (result ≡ P f d) × (result ≤ 2 * d) }

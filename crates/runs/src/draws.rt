@@ -28,6 +28,7 @@ fn near(dice: &mut Dice, v: usize, z: usize) -> usize
     requires size { v ≤ MOST_BYTES }
     requires block { 1 ≤ z }
 {
+    // The numbers are the dice's own, by how often each is wanted; a name for each would say no more than its arm.
     match dice.below(9) {
         0..=2 => v,
         3 => 0,

@@ -10,7 +10,7 @@ use std::io;
 // How many names go before a scrambled run takes its steps.
 const DELETES: usize = 60;
 
-// Which call a step makes; none for a round of damage.
+// Which call a step makes; none for a round of damage. The numbers are the dice's own: how many of 20 each call has.
 fn choice(a: usize) -> Option<Op> {
     match a {
         0..=3 => Some(Op::Create),

@@ -36,7 +36,7 @@ fn parted(order: &[u16], m: usize) -> Result<(&[u16], &[u16]), Fault> {
     others.split_at_checked(m).ok_or(Fault::NoSuchPart)
 }
 
-// A common size of a stream: none, whole blocks, a byte more than whole blocks, any.
+// A common size of a stream: none, whole blocks, a byte more than whole blocks, any. `a` is a number of the dice, below 4.
 fn common_size(z: u32, a: u32, b: u32) -> u32
     requires { (64 ≤ z) × (z ≤ 4096) × (b < 2147483647) }
 {

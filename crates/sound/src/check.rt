@@ -10,12 +10,9 @@ use layout::answers::Rule;
 use layout::limits::MOST_BLOCKS;
 use naming::root::rule8;
 use tables::spare::rule5;
-use tables::table::rule4;
+use tables::table::{LONGEST, rule4};
 use usage::free::rule7;
 use usage::used::rule6;
-
-// The bytes of a table of 256 descriptors.
-const LONGEST_TABLE: usize = 6408;
 
 // Rules 4 to 8. The page and the marks are lent for the work.
 fn check_shaped(card: &[u8], s: Cut, tab: &mut [u8], marks: &mut [u8]) -> Result<usize, Rule>
@@ -60,7 +57,7 @@ pub fn check_on(card: &[u8], tab: &mut [u8], marks: &mut [u8]) -> Result<usize, 
 pub fn check(card: &[u8]) -> Result<usize, Rule>
     ensures { (rule_in result ≡ broken card.now) × (free_in result ≡ free_of card.now) }
 {
-    let mut tab = [0; LONGEST_TABLE];
+    let mut tab = [0; LONGEST];
     let mut marks = [0; MOST_BLOCKS];
     check_on(card, &mut tab, &mut marks)
 }

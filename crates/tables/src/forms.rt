@@ -24,6 +24,8 @@ pub fn descriptor_at(tab: &[u8], k: usize) -> Desc
     descriptor(tab, START + LENGTH * k)
 }
 
+// These promise on any shape with blocks of 64 bytes at least, as they ever did, and so take no Cut.
+
 // Flags and reserved are right, and there are no more data blocks than the card has blocks. What is reserved is compared by
 // blocks and by rest, so that no product can be too large.
 #[tactic(auto, using(crate::proofs::Shaped::reserve_is), unfolding(layout::specs::Sound::right_desc))]

@@ -65,7 +65,7 @@ fn is_free(tab: &[u8], k: usize) -> bool
     number(tab, START + LENGTH * k + TOP, WIDTH) == END8
 }
 
-// Whether descriptor `k` is live, or, if the free ones are asked for, free.
+// Whether descriptor `k` is live, or, if the free ones are asked for, free. `alive` is a bool as in the clause of `right_marks`.
 #[tactic(auto, unfolding(layout::specs::Streams::live))]
 fn is_asked(tab: &[u8], alive: bool, k: usize) -> bool
     requires { k ≤ 65536 }
