@@ -75,8 +75,8 @@ fn write_card<D: Damage>(
     Ok(())
 }
 
-// Makes the cards of a rule's clauses.
-fn write_rule<D: Damage>(
+// Makes the cards of a rule's clauses, or those of all kinds; each card has a state of its own (G2).
+fn write_cards<D: Damage>(
     rt: &impl Print,
     alloc: Global,
     rule: usize,
@@ -94,51 +94,27 @@ fn write_rule<D: Damage>(
     Ok(())
 }
 
+// Makes the cards that break a rule.
+fn write_rule<D: Damage>(
+    rt: &impl Print,
+    alloc: Global,
+    rule: Rule,
+    clauses: &[(&str, D)],
+) -> anyhow::Result<()>
+    requires { length clauses.now ≤ 100 }
+{
+    write_cards(rt, alloc, rule.number(), clauses, OF_CLAUSE)
+}
+
 fn main(rt: HostRuntime) -> anyhow::Result<()> {
     let alloc = rt.alloc();
-    write_rule(&rt, alloc, SOUND, &undamaged::KINDS, OF_KIND)?;
-    write_rule(
-        &rt,
-        alloc,
-        Rule::Length.number(),
-        &lengths::SHORT,
-        OF_CLAUSE,
-    )?;
-    write_rule(
-        &rt,
-        alloc,
-        Rule::FixedValues.number(),
-        &fixed::FIXED,
-        OF_CLAUSE,
-    )?;
-    write_rule(
-        &rt,
-        alloc,
-        Rule::Blocks.number(),
-        &lengths::MISFITS,
-        OF_CLAUSE,
-    )?;
-    write_rule(&rt, alloc, Rule::Table.number(), &own::OWN, OF_CLAUSE)?;
-    write_rule(
-        &rt,
-        alloc,
-        Rule::Descriptors.number(),
-        &descriptors::DESCRIPTORS,
-        OF_CLAUSE,
-    )?;
-    write_rule(
-        &rt,
-        alloc,
-        Rule::Pyramids.number(),
-        &stream_pyramids::PYRAMIDS,
-        OF_CLAUSE,
-    )?;
-    write_rule(
-        &rt,
-        alloc,
-        Rule::FreeChain.number(),
-        &chain::CHAIN,
-        OF_CLAUSE,
-    )?;
-    write_rule(&rt, alloc, Rule::Root.number(), &root::ROOT, OF_CLAUSE)
+    write_cards(&rt, alloc, SOUND, &undamaged::KINDS, OF_KIND)?;
+    write_rule(&rt, alloc, Rule::Length, &lengths::SHORT)?;
+    write_rule(&rt, alloc, Rule::FixedValues, &fixed::FIXED)?;
+    write_rule(&rt, alloc, Rule::Blocks, &lengths::MISFITS)?;
+    write_rule(&rt, alloc, Rule::Table, &own::OWN)?;
+    write_rule(&rt, alloc, Rule::Descriptors, &descriptors::DESCRIPTORS)?;
+    write_rule(&rt, alloc, Rule::Pyramids, &stream_pyramids::PYRAMIDS)?;
+    write_rule(&rt, alloc, Rule::FreeChain, &chain::CHAIN)?;
+    write_rule(&rt, alloc, Rule::Root, &root::ROOT)
 }
