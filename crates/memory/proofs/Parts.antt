@@ -35,13 +35,13 @@ front_over l new vs k m n e f g =
     let same-long : length new ≡ m = ap length new-is ∙ length_over (take k l) 0 (take m vs) ∙ long in
     let some = length-take m vs in
     let each : (i : ℕ) → i < length (over l 0 new) → get_or (over l 0 new) i 0 ≡ get_or (over l 0 (take m vs)) i 0 =
-        λ i h. let there : i < length l = omega (arith, h, length_over l 0 new) in elim (dec_lt i (length (take m vs))) [
-          | yes u ↦ over_in l 0 new i i (omega arith) (omega arith) there ∙ ap (λ (x : List ℕ). get_or x i 0) new-is ∙ over_in (take k l) 0 (take m vs) i i (omega arith) u (omega arith) ∙ sym (over_in l 0 (take m vs) i i (omega arith) u there)
-          | no u ↦ elim (dec_lt i m) [
-            | yes v ↦ over_in l 0 new i i (omega arith) (omega arith) there ∙ ap (λ (x : List ℕ). get_or x i 0) new-is ∙ over_out (take k l) 0 (take m vs) i (λ a b. omega arith) ∙ get_or-take k l i 0 (omega arith) ∙ sym (over_out l 0 (take m vs) i (λ a b. omega arith))
-            | no v ↦ over_out l 0 new i (λ a b. omega arith) ∙ sym (over_out l 0 (take m vs) i (λ a b. omega arith))
-          ]
-        ] in
+    λ i h. let there : i < length l = omega (arith, h, length_over l 0 new) in elim (dec_lt i (length (take m vs))) [
+      | yes u ↦ over_in l 0 new i i (omega arith) (omega arith) there ∙ ap (λ (x : List ℕ). get_or x i 0) new-is ∙ over_in (take k l) 0 (take m vs) i i (omega arith) u (omega arith) ∙ sym (over_in l 0 (take m vs) i i (omega arith) u there)
+      | no u ↦ elim (dec_lt i m) [
+        | yes v ↦ over_in l 0 new i i (omega arith) (omega arith) there ∙ ap (λ (x : List ℕ). get_or x i 0) new-is ∙ over_out (take k l) 0 (take m vs) i (λ a b. omega arith) ∙ get_or-take k l i 0 (omega arith) ∙ sym (over_out l 0 (take m vs) i (λ a b. omega arith))
+        | no v ↦ over_out l 0 new i (λ a b. omega arith) ∙ sym (over_out l 0 (take m vs) i (λ a b. omega arith))
+      ]
+    ] in
     let fewer : take m (take n vs) ≡ take m vs = take-take m n vs (omega arith) in
     let enough : min (length (take n vs)) (length l - 0) ≤ m = rw length-take (omega arith) in
     over_mid l new 0 k (omega arith) (omega arith)
