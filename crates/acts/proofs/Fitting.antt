@@ -1,9 +1,9 @@
 -- On a card that passes its check numbers fit: what the acts ask for can be met.
-use mathlib.Core.Path.{refl}
+use mathlib.Core.Path.{refl, ◌≡◌}
 use mathlib.Core.Logic.{◌≢◌, inl}
 use mathlib.Core.List.{List, [], ◌∷◌}
 use Prim.Native.Nat.{ℕ, ◌*◌, ◌/◌, ◌%◌, ◌^◌, ◌-◌, ◌≤◌, ◌<◌}
-use native.Mathlib.Nat.{mul-le-mul, pow-le-pow_right}
+use native.Mathlib.Nat.{mul-le-mul, pow-le-pow_right, div-add-mod'}
 use native.Mathlib.Omega.{arith}
 use lib.ListN.{length}
 use lib.Dec.{T}
@@ -17,32 +17,45 @@ use Rattle.laws.proofs.Links.{Links}
 use Rattle.laws.proofs.Lives.{lives_in}
 use Rattle.laws.proofs.State.{lives_of, Right, Core, right_fits}
 use Rattle.laws.proofs.Cores.{core_good, size_few, count-few, core_frees}
-use Rattle.laws.proofs.Moves as moves
+use Rattle.layout.specs.Ranges.{Small}
 use Rattle.blocks.specs.Narrow.{Narrow}
 use Rattle.acts.specs.Fits.{Fits}
 use Rattle.layout.specs.declared.Shape.{Shape}
 use Rattle.layout.specs.declared.Desc.{Desc}
+use Rattle.laws.proofs.Moves as moves
 
--- ---- a good shape is narrow
+-- ---- a good shape is small, and so narrow
 
-shaped-narrow : (c : List ℕ) (shift : ℕ) → least_shift ≤ shift → shift ≤ most_shift → (length c - head_length) / 2 ^ shift ≤ most_blocks → Narrow (shaped (length c) shift)
-shaped-narrow c shift l m n = record {
-  base = omega arith;
-  least = pow-le-pow_right {n = 2} (omega arith) l;
-  most = pow-le-pow_right {n = 2} (omega arith) m;
-  count = n;
-  first = omega arith;
-  table = omega arith;
-}
+narrowed : {c : List ℕ} {s : Shape} → Small c s → Narrow s
+narrowed h = record { base = h.base; least = h.least; most = h.most; count = h.count; first = h.first; table = h.table }
+
+shaped-small : (c : List ℕ) (shift : ℕ) → least_shift ≤ shift → shift ≤ most_shift → head_length ≤ length c → (length c - head_length) % 2 ^ shift ≡ 0 → (length c - head_length) / 2 ^ shift ≤ most_blocks
+    → Small c (shaped (length c) shift)
+shaped-small c shift l m h r n =
+    let size : 2 ^ shift ≤ 4096 = pow-le-pow_right {n = 2} (omega arith) m in
+    let e = div-add-mod' (length c - head_length) (2 ^ shift) in
+    let z = mul-le-mul n size in
+    record {
+      base = omega arith;
+      least = pow-le-pow_right {n = 2} (omega arith) l;
+      most = size;
+      count = n;
+      first = omega arith;
+      table = omega arith;
+      whole = omega arith;
+    }
 
 -- what format asks for, where the shape is good
-pub new_narrow : (c : List ℕ) (shift : ℕ) → T (good_shape (length c) shift) → Narrow (shaped (length c) shift) × (shift < 256)
+pub new_small : (c : List ℕ) (shift : ℕ) → T (good_shape (length c) shift) → Small c (shaped (length c) shift) × (shift < 256)
 unfolding good_shape
-new_narrow c shift t =
+new_small c shift t =
     let n = length c - head_length in
     let z = 2 ^ shift in
     let r = (is_both (is_both (is_leb least_shift shift) (is_leb shift most_shift)) (is_both (is_leb head_length (length c)) (is_both (is_eqb (n % z) 0) (is_both (is_leb 1 (n / z)) (is_leb (n / z) most_blocks))))).out t in
-    (shaped-narrow c shift r.0.0 r.0.1 r.1.1.1.1, omega (arith, r.0.1))
+    (shaped-small c shift r.0.0 r.0.1 r.1.0 r.1.1.0 r.1.1.1.1, omega (arith, r.0.1))
+
+pub new_narrow : (c : List ℕ) (shift : ℕ) → T (good_shape (length c) shift) → Narrow (shaped (length c) shift) × (shift < 256)
+new_narrow c shift t = let (h, k) = new_small c shift t in (narrowed h, k)
 
 -- ---- numbers that fit
 
@@ -66,6 +79,9 @@ module _ (c : List ℕ) (s : Shape) (w : Core c s) where
   pub live-low : (k : ℕ) → In k (lives_of c s) → (k < 2 ^ 56) × ((stream c s k).size < 2 ^ 61)
   live-low k i = (omega (arith, (lives_in (table_bytes c s) k i).0, w.few), omega (arith, right_low (stream c s k) (moves.stream_right c s w k i)))
 
-pub narrow : (c : List ℕ) → Core c (shape_of c) → Narrow (shape_of c)
+pub small : (c : List ℕ) → Core c (shape_of c) → Small c (shape_of c)
 unfolding shape_of
-narrow c w = let h = w.headed in shaped-narrow c (shift_of c) h.least h.most h.few
+small c w = let h = w.headed in shaped-small c (shift_of c) h.least h.most h.long h.whole h.few
+
+pub narrow : (c : List ℕ) → Core c (shape_of c) → Narrow (shape_of c)
+narrow c w = narrowed (small c w)
