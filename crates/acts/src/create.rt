@@ -9,6 +9,7 @@ ghost use Rattle.acts.specs.Full.{full_table};
 use blocks::chain::END8;
 use blocks::cut::Cut;
 use filing::edits::append;
+use filing::entries::HEAD;
 use holding::read::size;
 use holding::room::wants;
 use layout::limits::most_streams;
@@ -80,7 +81,7 @@ pub fn create_wants(card: &[u8], s: Cut, k: usize, name: &[u8]) -> usize
 {
     let shape = s.shape();
     let d = stream(card, s, k);
-    let more = wants(shape, d, d.size + 6 + name.len());
+    let more = wants(shape, d, d.size + HEAD + name.len());
     if table_number(card, s, 0) != END8 {
         return more;
     }

@@ -8,6 +8,7 @@ use crate::create::{FIRST_PLACE, LENGTH};
 use blocks::chain::END8;
 use blocks::cut::Cut;
 use filing::edits::remove;
+use filing::entries::HEAD;
 use layout::limits::MOST_BLOCKS;
 use memory::bytes::put_number;
 use stream::inside::{lay_in_table, put_table_number, table_number};
@@ -36,5 +37,5 @@ pub fn delete(card: &mut [u8], s: Cut, k: usize, j: usize, at: usize, n: usize)
 {
     let mut marks = [0; MOST_BLOCKS];
     undescribe(card, s, j, &mut marks);
-    remove(card, s, k, at, 6 + n, &mut marks);
+    remove(card, s, k, at, HEAD + n, &mut marks);
 }

@@ -6,6 +6,7 @@ ghost use Rattle.layout.specs.Filing.{entries_of, nothing};
 ghost use Rattle.filing.specs.Located.{numbered};
 
 use blocks::cut::Cut;
+use filing::entries::HEAD;
 use filing::listing::{Row, nth_entry};
 use laying::gather::gather_stream;
 use stream::descs::stream;
@@ -18,6 +19,6 @@ pub fn list(card: &[u8], s: Cut, k: usize, n: usize, tray: &mut [u8]) -> Option<
     let t = stream(card, s, k);
     let row = nth_entry(card, s, t, n)?;
     let n = row.length.min(tray.len());
-    gather_stream(card, s, t, row.at + 6, &mut tray[..n]);
+    gather_stream(card, s, t, row.at + HEAD, &mut tray[..n]);
     Some(row)
 }

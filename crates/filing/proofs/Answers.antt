@@ -2,7 +2,7 @@
 use mathlib.Core.Path.{◌≡◌, refl, ◌∙◌}
 use mathlib.Core.Bool.{Bool, true, false}
 use mathlib.Core.List.{List, [], ◌∷◌}
-use Rattle.std.specs.Prelude.{Option, Some, None}
+use Rattle.std.specs.Prelude.{Option, Some, None, Result, Ok, Err}
 use Prim.Native.Nat.{ℕ, zero, suc, ◌+◌, ◌≤◌, ◌<◌}
 use native.Mathlib.Decide.{dec_le}
 use native.Mathlib.Omega.{arith}
@@ -24,8 +24,8 @@ found_entry es i n = record { number = n + i; index = (get_or es i nothing).inde
 abbrev pub row_entry : List Entry → ℕ → Row
 row_entry es i = record { index = (get_or es i nothing).index; at = (get_or es i nothing).at; length = length (get_or es i nothing).name }
 
-abbrev pub found_at : List Entry → ℕ → ℕ → Option Found
-found_at es i n = pick (ltb i (length es)) (Some (found_entry es i n)) None
+abbrev pub found_at : List Entry → ℕ → ℕ → Result Found ℕ
+found_at es i n = pick (ltb i (length es)) (Ok (found_entry es i n)) (Err (n + length es))
 
 abbrev pub row_at : List Entry → ℕ → Option Row
 row_at es i = pick (ltb i (length es)) (Some (row_entry es i)) None
@@ -33,16 +33,17 @@ row_at es i = pick (ltb i (length es)) (Some (row_entry es i)) None
 found_later : (e : Entry) (es : List Entry) (i n : ℕ) → found_at es i (n + 1) ≡ found_at (e ∷ es) (suc i) n
 found_later e es i n =
     let a : n + 1 + i ≡ n + suc i = omega arith in
-    rw (a, leb-suc-suc (suc i) (length es))
+    let b : n + 1 + length es ≡ n + suc (length es) = omega arith in
+    rw (a, b, leb-suc-suc (suc i) (length es))
 
 -- the search for a name ends where `look_in` does
 pub located_is : (es : List Entry) (name : List ℕ) (n : ℕ) → located es name n ≡ found_at es (look_in es name) n
 unfolding located look_in
-located_is [] name n = refl
+located_is [] name n = let a : n + 0 ≡ n = omega arith in rw a
 located_is (e ∷ es) name n = go (same e.name name) (located_is es name (n + 1))
   where
     go : (t : Bool) → located es name (n + 1) ≡ found_at es (look_in es name) (n + 1)
-        → pick t (Some (record { number = n; index = e.index; at = e.at })) (located es name (n + 1)) ≡ found_at (e ∷ es) (pick t 0 (suc (look_in es name))) n
+        → pick t (Ok (record { number = n; index = e.index; at = e.at })) (located es name (n + 1)) ≡ found_at (e ∷ es) (pick t 0 (suc (look_in es name))) n
     go true h =
         let a : n + 0 ≡ n = omega arith in
         rw (leb_yes {a = 1} {b = suc (length es)} (omega arith), a)
@@ -72,15 +73,30 @@ module _ {A : Type 0} (b : Bool) (x : A) where
       go true u = absurd (cc)
       go false u = refl
 
+module _ {A : Type 0} (b : Bool) (x : A) (m : ℕ) where
+  met : (y : A) → Ok y ≡ pick b (Ok x) (Err m) → (b ≡ true) × (y ≡ x)
+  met y e = go b e
+    where
+      go : (t : Bool) → Ok y ≡ pick t (Ok x) (Err m) → (t ≡ true) × (y ≡ x)
+      go true u = (refl, cc)
+      go false u = absurd (cc)
+
+  unmet : (k : ℕ) → Err k ≡ pick b (Ok x) (Err m) → b ≡ false
+  unmet k e = go b e
+    where
+      go : (t : Bool) → Err k ≡ pick t (Ok x) (Err m) → t ≡ false
+      go true u = absurd (cc)
+      go false u = refl
+
 module _ (es : List Entry) (name : List ℕ) (n : ℕ) where
   -- a name that is found is known, and stands where `look_in` says
-  pub found_known : {f : Found} → Some f ≡ located es name n → (look_in es name < length es) × (f ≡ found_entry es (look_in es name) n)
+  pub found_known : {f : Found} → Ok f ≡ located es name n → (look_in es name < length es) × (f ≡ found_entry es (look_in es name) n)
   found_known {f = f} e =
-      let w = chosen (ltb (look_in es name) (length es)) (found_entry es (look_in es name) n) f (e ∙ located_is es name n) in
+      let w = met (ltb (look_in es name) (length es)) (found_entry es (look_in es name) n) (n + length es) f (e ∙ located_is es name n) in
       (ltb-true (look_in es name) (length es) w.0, w.1)
 
-  pub not_found : None ≡ located es name n → length es ≤ look_in es name
-  not_found e = ltb-false (look_in es name) (length es) (unchosen (ltb (look_in es name) (length es)) (found_entry es (look_in es name) n) (e ∙ located_is es name n))
+  pub not_found : {k : ℕ} → Err k ≡ located es name n → length es ≤ look_in es name
+  not_found {k = k} e = ltb-false (look_in es name) (length es) (unmet (ltb (look_in es name) (length es)) (found_entry es (look_in es name) n) (n + length es) k (e ∙ located_is es name n))
 
 module _ (es : List Entry) (n : ℕ) where
   -- an entry by its number is there, or there are not so many

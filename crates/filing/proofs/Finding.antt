@@ -1,7 +1,7 @@
 -- Entries: a head on a page, and the search going from one to the next.
 use mathlib.Core.Path.{◌≡◌, refl, ap, ◌∙◌}
 use mathlib.Core.Bool.{Bool, true, false}
-use Rattle.std.specs.Prelude.{Option, Some, None}
+use Rattle.std.specs.Prelude.{Option, Some, None, Result, Ok, Err}
 use mathlib.Core.List.{List, [], ◌∷◌}
 use Prim.Native.Nat.{ℕ, zero, suc, ◌+◌, ◌-◌, min, ◌≤◌, ◌<◌}
 use native.Mathlib.Numerals.{sub-one}
@@ -48,7 +48,7 @@ module _ (r : List ℕ) where
   entries_stop at h = entries_bound (length r) 0 at (omega arith) (omega arith)
 
   module _ (name : List ℕ) (size at n i l : ℕ) (b : Bool) (long : size ≡ length r) (inside : at < size) (e : i ≡ num 4 r at) (f : l ≡ name_length r at) (g : b ≡ same (entry_at r at).name name) where
-    pub find_here : b ≡ true → Some (record { number = n; index = i; at = at }) ≡ located (entries_from (length r) r at) name n
+    pub find_here : b ≡ true → Ok (record { number = n; index = i; at = at }) ≡ located (entries_from (length r) r at) name n
     unfolding located
     find_here t = rw (entries-step at (omega arith), ← g, t, e)
 
@@ -56,7 +56,7 @@ module _ (r : List ℕ) where
     unfolding located
     find-next t = let z : at + (6 + l) ≡ at + 6 + l = omega arith in rw (z, entries-step at (omega arith), ← g, t, f)
 
-  pub find_none : (name : List ℕ) (at n m : ℕ) (f : Option Found) → located (entries_from (length r) r at) name n ≡ f → m ≡ length r → m ≤ at → None ≡ f
+  pub find_none : (name : List ℕ) (at n m : ℕ) (f : Result Found ℕ) → located (entries_from (length r) r at) name n ≡ f → m ≡ length r → m ≤ at → Err n ≡ f
   unfolding located
   find_none name at n m f t e h = rw (entries_stop at (omega arith)) at t
 
@@ -80,6 +80,6 @@ module _ (r : List ℕ) where
 
 -- ---- in a directory
 
-pub looked_up : (c name : List ℕ) (s : Shape) (k : ℕ) (t : Desc) (f : Option Found) → t ≡ stream c s k → f ≡ located (entries (contents c s t.top (data_of s t) t.size)) name 0 → f ≡ located (entries_of c s k) name 0
+pub looked_up : (c name : List ℕ) (s : Shape) (k : ℕ) (t : Desc) (f : Result Found ℕ) → t ≡ stream c s k → f ≡ located (entries (contents c s t.top (data_of s t) t.size)) name 0 → f ≡ located (entries_of c s k) name 0
 unfolding entries_of stream_bytes
 looked_up c name s k t f e g = rw e at g

@@ -40,8 +40,8 @@ pub fn read_head(piece: &[u8]) -> Head
     }
 }
 
-// The name's place in the directory that `t` describes, where it is known.
-pub fn find(card: &[u8], s: Cut, t: Desc, name: &[u8]) -> Option<Found>
+// The name's place in the directory that `t` describes; where it is not known, how many entries there are.
+pub fn find(card: &[u8], s: Cut, t: Desc, name: &[u8]) -> Result<Found, usize>
     requires { (t.size < 2 ^ 62) × (length name.now ≤ 64) }
     ensures { result ≡ located (entries (contents card.now s t.top (data_of s t) t.size)) name.now 0 }
 {
@@ -51,13 +51,13 @@ pub fn find(card: &[u8], s: Cut, t: Desc, name: &[u8]) -> Option<Found>
     // No more entries than bytes: the step is the entry's own length, which its page tells.
     for number in 0..size {
         if size <= at {
-            break;
+            return Err(number);
         }
         page.turn(card, s, t, at);
         let piece = page.piece(t, at);
         let h = read_head(piece);
         if name_is(piece, name) {
-            return Some(Found {
+            return Ok(Found {
                 number,
                 index: h.index,
                 at,
@@ -65,11 +65,11 @@ pub fn find(card: &[u8], s: Cut, t: Desc, name: &[u8]) -> Option<Found>
         }
         at += HEAD + h.length;
     }
-    None
+    Err(size)
 }
 
-// The name's place in directory `k`, where it is known.
-pub fn look_up(card: &[u8], s: Cut, k: usize, name: &[u8]) -> Option<Found>
+// The name's place in directory `k`; where it is not known, how many entries there are.
+pub fn look_up(card: &[u8], s: Cut, k: usize, name: &[u8]) -> Result<Found, usize>
     requires { (k < 2 ^ 56) × (length name.now ≤ 64) × ((stream card.now s k).size < 2 ^ 62) }
     ensures { result ≡ located (entries_of card.now s k) name.now 0 }
 {

@@ -4,6 +4,7 @@ use mathlib.Core.Bool.{Bool, true, false}
 use mathlib.Core.List.{List, ◌∷◌}
 use Rattle.std.specs.Prelude.{Option, Some, None, Result, Ok, Err}
 use Rattle.std.specs.Option.{ok_or, is_some}
+use Rattle.std.specs.Result.{result_ok}
 use Prim.Native.Nat.{ℕ}
 use native.Mathlib.Nat.{zero-add}
 use lib.ListN.{length}
@@ -77,15 +78,20 @@ sought_damaged c name {why = why} e = go (eqb (broken c) 0) _ _ _ e
     go true x w y f = absurd (cc)
     go false x w y f = cc
 
+-- what `ok` keeps
+kept_ok : {A E : Type 0} (b : Bool) (x : A) (m : E) → result_ok (pick b (Ok x) (Err m)) ≡ pick b (Some x) None
+kept_ok true x m = refl
+kept_ok false x m = refl
+
 module _ (c name : List ℕ) (s : Shape) (p : Passed c s) (q : Bool) (f : q ≡ good_name name) where
   pub sought_bad : q ≡ false → Err no.BadName ≡ sought_of c name
   unfolding sought_of
   sought_bad g = rw (p.unbroken, ← f, g)
 
-  pub sought-done : q ≡ true → (o : Option Found) → o ≡ located (entries_of c s 0) name 0 → Ok (record { shape = s; found = o }) ≡ sought_of c name
+  pub sought-done : q ≡ true → (r : Result Found ℕ) (o : Option Found) → r ≡ located (entries_of c s 0) name 0 → o ≡ result_ok r → Ok (record { shape = s; found = o }) ≡ sought_of c name
   unfolding sought_of
-  sought-done g o w =
-      let there : o ≡ found_of c name = w ∙ rw (p.cut, located_is (root_of c) name 0, zero-add (look_in (root_of c) name)) in
+  sought-done g r o w e =
+      let there : o ≡ found_of c name = e ∙ rw (w, p.cut, located_is (root_of c) name 0, zero-add (look_in (root_of c) name)) (kept_ok (known c name) _ _) in
       rw (p.unbroken, ← f, g, there, p.cut)
 
 -- where there is nothing, `ok_or` gives its error

@@ -47,6 +47,6 @@ pub fn seek(card: &[u8], name: &[u8]) -> Result<Sought, Refusal>
     if !good_name(name) {
         return Err(Refusal::BadName);
     }
-    let found = look_up(card, shape, ROOT, name);
+    let found = look_up(card, shape, ROOT, name).ok();
     Ok(Sought { shape, found })
 }

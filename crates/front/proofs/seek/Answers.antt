@@ -11,9 +11,9 @@ returns-in_err-shape c = let p = err_from_is_err_and c.from_residual.result c.fr
 pub returns-then-not-good_name : goal.returns-then-not-good_name
 returns-then-not-good_name c = sought_bad _ _ _ (sound_of _ c.in_ok-shape.ensures) _ c.good_name.ensures c.if-not-good_name.true
 
-pub look_up-found-requires : goal.look_up-found-requires
-look_up-found-requires c = let p = sound_of _ c.in_ok-shape.ensures in
+pub look_up-requires : goal.look_up-requires
+look_up-requires c = let p = sound_of _ c.in_ok-shape.ensures in
     (search rules, name_fits _ _ c.good_name.ensures c.if-not-good_name.false, root-low p)
 
 pub returns : goal.returns
-returns c = sought-done _ _ _ (sound_of _ c.in_ok-shape.ensures) _ c.good_name.ensures c.if-not-good_name.false _ c.look_up-found.ensures
+returns c = sought-done _ _ _ (sound_of _ c.in_ok-shape.ensures) _ c.good_name.ensures c.if-not-good_name.false _ _ c.look_up.ensures c.ok-found.ensures.value

@@ -1,5 +1,5 @@
 -- `filing::entries::find` keeps its promise.
-use mathlib.Core.Path.{sym, ◌∙◌}
+use mathlib.Core.Path.{◌≡◌, sym, ◌∙◌}
 use native.Mathlib.Omega.{arith}
 use Rattle.layout.specs.Streams.{data_of, contents}
 use Rattle.laws.proofs.Laying.{length-contents}
@@ -27,5 +27,8 @@ loop-number-preserved c = let long = sym (length-contents _ _ _ _ _) in
 pub returns-then-size-at : goal.returns-then-size-at
 returns-then-size-at c = let a = c.args in find_none (contents a.card.now a.s a.t.top (data_of a.s a.t) a.t.size) a.name.now _ _ _ _ c.loop-number.invariant.3 (sym (length-contents _ _ _ _ _)) c.if-size-at.true
 
-pub returns-after-loop-number : goal.returns-after-loop-number
-returns-after-loop-number c = let a = c.args in find_none (contents a.card.now a.s a.t.top (data_of a.s a.t) a.t.size) a.name.now _ _ _ _ c.loop-number.invariant.3 (sym (length-contents _ _ _ _ _)) (omega (arith, c.loop-number.invariant.1, c.loop-number-test.false))
+pub returns : goal.returns
+returns c =
+    let a = c.args in
+    let all : c.loop-number.number ≡ a.t.size = omega arith in
+    rw all at (find_none (contents a.card.now a.s a.t.top (data_of a.s a.t) a.t.size) a.name.now _ _ _ _ c.loop-number.invariant.3 (sym (length-contents _ _ _ _ _)) (omega (arith, c.loop-number.invariant.1, c.loop-number-test.false)))
