@@ -17,6 +17,8 @@ pub struct Card {
     path: PathBuf,
     file: PathBuf,
     seen: Metadata,
+    /// Kept open, so that no other file gets its number, by which `still_as_read` knows it.
+    _open: File,
     pub image: Vec<u8>,
 }
 
@@ -36,6 +38,7 @@ impl Card {
             path: path.into(),
             file,
             seen,
+            _open: open,
             image,
         })
     }

@@ -72,7 +72,8 @@ fn folder_of(path: &Path) -> &Path {
 }
 
 /// Makes a file's bytes these, all at once: until the rename the old file stands as it was, and stays if anything fails.
-/// `last_look` is asked right before the rename. `shown` is the path as it was given.
+/// `last_look` is asked right before the rename, and nobody else who puts a file into that folder by this function is
+/// between the two. `shown` is the path as it was given.
 pub fn put_whole(
     path: &Path,
     shown: &Path,
@@ -84,14 +85,29 @@ pub fn put_whole(
     let unwritten = |error| not_written(shown, &error);
     let (temporary, file) = beside(path, old.is_some()).map_err(unwritten)?;
     let renamed = fill(&file, bytes, old, progress, &names::path(shown))
+        .and_then(|()| alone_in(folder_of(path)))
         .map_err(unwritten)
-        .and_then(|()| last_look())
-        .and_then(|()| fs::rename(&temporary, path).map_err(unwritten));
+        .and_then(|alone| {
+            last_look()?;
+            fs::rename(&temporary, path).map_err(unwritten)?;
+            drop(alone);
+            Ok(())
+        });
     if renamed.is_err() {
         let _ = fs::remove_file(&temporary);
     }
     renamed?;
     sync_folder(path, shown)
+}
+
+/// The folder, locked until what is returned is dropped. Nothing is left behind: the lock ends with its program. A folder that
+/// may not be read (13) can't be locked, and some systems lock no folder (9, 22, 37, 95): there the last look is all there is.
+fn alone_in(folder: &Path) -> io::Result<Option<File>> {
+    let locked = File::open(folder).and_then(|folder| folder.lock().map(|()| folder));
+    match locked {
+        Err(error) if matches!(error.raw_os_error(), Some(9 | 13 | 22 | 37 | 95)) => Ok(None),
+        locked => locked.map(Some),
+    }
 }
 
 /// A new file in the same folder. One that a killed program has left behind is passed over.

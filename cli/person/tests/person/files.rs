@@ -159,6 +159,31 @@ fn a_card_that_goes_or_changes_meanwhile() {
     assert!(desk.run("ls c").done().starts_with("         4  other\n1 list"));
 }
 
+/// All have read the same card before any of them writes it: one is done, and the card holds its list and no other.
+#[test]
+fn of_many_that_change_one_card_at_once_one_is_done() {
+    let desk = Desk::new("many");
+    for _ in 0..8 {
+        desk.run("format c --blocks 256 --size 1024 --force").done();
+        let mut children: Vec<_> = (0..12).map(|n| desk.start(&["put", "c", &format!("a{n}")])).collect();
+        let mut pipes: Vec<_> = children.iter_mut().map(|c| c.stdin.take().expect("a pipe")).collect();
+        for pipe in &mut pipes {
+            pipe.write_all(&[b'r'; 1 << 17]).expect("it reads");
+        }
+        drop(pipes);
+        let ran: Vec<_> = children.into_iter().map(ended).collect();
+        let (done, refused): (Vec<_>, Vec<_>) = ran.iter().partition(|ran| ran.status == 0);
+        for ran in refused {
+            ran.refused(74, "another program has changed c meanwhile");
+        }
+        assert_eq!(done.len(), 1, "{done:?}");
+        let name = done[0].done().split('\'').nth(1).unwrap_or_default().to_string();
+        assert_eq!(desk.run(&format!("get c {name}")).out, [b'r'; 1 << 17]);
+        assert!(desk.run("ls c").done().contains("\n1 list"));
+        assert_eq!(desk.names(), ["c"]);
+    }
+}
+
 #[test]
 fn permissions_and_links_are_kept() {
     let desk = Desk::with_card("kept");
