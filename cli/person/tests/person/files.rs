@@ -159,6 +159,22 @@ fn a_card_that_goes_or_changes_meanwhile() {
     assert!(desk.run("ls c").done().starts_with("         4  other\n1 list"));
 }
 
+#[test]
+fn a_folder_that_stays_locked() {
+    let desk = Desk::with_card("locked");
+    let folder = fs::File::open(&desk.folder).expect("a folder");
+    folder.lock().expect("locked");
+    let old = desk.read("c");
+    desk.pipe("put c a", b"rows").refused(
+        74,
+        "cannot write c: another program keeps its folder locked; nothing was changed",
+    );
+    assert_eq!((desk.read("c"), desk.names()), (old, vec!["c".to_string()]));
+    desk.run("check c").done();
+    folder.unlock().expect("unlocked");
+    desk.pipe("put c a", b"rows").done();
+}
+
 /// All have read the same card before any of them writes it: one is done, and the card holds its list and no other.
 #[test]
 fn of_many_that_change_one_card_at_once_one_is_done() {
