@@ -17,8 +17,8 @@ pub struct Card {
     path: PathBuf,
     file: PathBuf,
     seen: Metadata,
-    /// Kept open, so that no other file gets its number, by which `still_as_read` knows it.
-    _open: File,
+    /// Of a card that is to change: kept open, so that no other file gets its number, by which `still_as_read` knows it.
+    _open: Option<File>,
     pub image: Vec<u8>,
 }
 
@@ -26,6 +26,10 @@ impl Card {
     /// Reads a card to look at. Of a file longer than any card one byte more than the longest is read: that breaks the
     /// same rule, 2 or 3, which ask about nothing but the header and the length.
     pub fn read(path: &Path, progress: &Progress) -> Result<Card, Failure> {
+        Card::read_open(path, progress).map(|(card, _)| card)
+    }
+
+    fn read_open(path: &Path, progress: &Progress) -> Result<(Card, File), Failure> {
         let wrong = |error| files::not_read(path, &error);
         let file = fs::canonicalize(path).map_err(wrong)?;
         ordinary(path, &fs::metadata(&file).map_err(wrong)?)?;
@@ -34,18 +38,19 @@ impl Card {
         let what = names::path(path);
         let image = files::read_up_to(&mut open, HEADER + MOST_DATA + 1, seen.len(), progress, &what).map_err(wrong)?;
         progress.stage(format!("at work on {what}"), 0);
-        Ok(Card {
+        let card = Card {
             path: path.into(),
             file,
             seen,
-            _open: open,
+            _open: None,
             image,
-        })
+        };
+        Ok((card, open))
     }
 
     /// Reads a card to change it, if its file may be written.
     pub fn read_to_change(path: &Path, progress: &Progress) -> Result<Card, Failure> {
-        let card = Card::read(path, progress)?;
+        let (mut card, kept) = Card::read_open(path, progress)?;
         if card.seen.permissions().readonly() {
             let words = format!("cannot write {}: its file is marked read-only", names::path(path));
             return Err(Failure::file(
@@ -55,6 +60,7 @@ impl Card {
         }
         let open = OpenOptions::new().write(true).open(&card.file);
         open.map_err(|error| files::not_written(path, &error))?;
+        card._open = Some(kept);
         Ok(card)
     }
 

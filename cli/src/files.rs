@@ -3,17 +3,13 @@
 use crate::failure::Failure;
 use crate::names;
 use crate::progress::Progress;
-use std::fs::{self, File, Metadata, OpenOptions, TryLockError};
+use crate::turn::Turn;
+use std::fs::{self, File, Metadata, OpenOptions};
 use std::io::{self, Read, Write};
 use std::os::unix::fs::{fchown, MetadataExt, OpenOptionsExt};
 use std::path::{Path, PathBuf};
-use std::thread;
-use std::time::Duration;
 
 const CHUNK: usize = 1 << 18;
-/// How often the lock of a folder is asked for, five seconds in all: a command holds it for a look and a rename.
-const LOCK_TRIES: usize = 500;
-const LOCK_PAUSE: Duration = Duration::from_millis(10);
 
 /// An error of the system in words for a person.
 pub fn why(error: &io::Error) -> String {
@@ -69,7 +65,7 @@ pub fn behind_links(path: &Path) -> io::Result<PathBuf> {
     }
 }
 
-fn folder_of(path: &Path) -> &Path {
+pub fn folder_of(path: &Path) -> &Path {
     match path.parent() {
         Some(folder) if !folder.as_os_str().is_empty() => folder,
         _ => Path::new("."),
@@ -77,7 +73,7 @@ fn folder_of(path: &Path) -> &Path {
 }
 
 /// Makes a file's bytes these, all at once: until the rename the old file stands as it was, and stays if anything fails.
-/// `last_look` is asked right before the rename, and nobody else who puts a file into that folder by this function is
+/// `last_look` is asked right before the rename, and nobody else who makes that file's bytes by this function is
 /// between the two. `shown` is the path as it was given.
 pub fn put_whole(
     path: &Path,
@@ -90,41 +86,20 @@ pub fn put_whole(
     let unwritten = |error| not_written(shown, &error);
     let (temporary, file) = beside(path, old.is_some()).map_err(unwritten)?;
     let renamed = fill(&file, bytes, old, progress, &names::path(shown))
-        .and_then(|()| alone_in(folder_of(path)))
+        .and_then(|()| Turn::at(path))
         .map_err(unwritten)
-        .and_then(|alone| {
+        .and_then(|turn| {
             last_look()?;
             fs::rename(&temporary, path).map_err(unwritten)?;
-            drop(alone);
+            drop(turn);
             Ok(())
         });
     if renamed.is_err() {
         let _ = fs::remove_file(&temporary);
     }
     renamed?;
+    drop(file);
     sync_folder(path, shown)
-}
-
-/// The folder, locked until what is returned is dropped. Nothing is left behind: the lock ends with its program. A folder that
-/// may not be read (13) can't be locked, and some systems lock no folder (9, 22, 37, 95): there the last look is all there is.
-fn alone_in(folder: &Path) -> io::Result<Option<File>> {
-    let locked = File::open(folder).and_then(|folder| locked_soon(&folder).map(|()| folder));
-    match locked {
-        Err(error) if matches!(error.raw_os_error(), Some(9 | 13 | 22 | 37 | 95)) => Ok(None),
-        locked => locked.map(Some),
-    }
-}
-
-/// Waits for the lock, but not for ever: a person may have locked the folder before this program was started.
-fn locked_soon(folder: &File) -> io::Result<()> {
-    for _ in 0..LOCK_TRIES {
-        match folder.try_lock() {
-            Ok(()) => return Ok(()),
-            Err(TryLockError::WouldBlock) => thread::sleep(LOCK_PAUSE),
-            Err(TryLockError::Error(error)) => return Err(error),
-        }
-    }
-    Err(io::Error::other("another program keeps its folder locked"))
 }
 
 /// A new file in the same folder. One that a killed program has left behind is passed over.

@@ -16,6 +16,7 @@ mod map;
 mod names;
 mod progress;
 mod svg;
+mod turn;
 mod words;
 
 use answer::Answer;

@@ -159,20 +159,43 @@ fn a_card_that_goes_or_changes_meanwhile() {
     assert!(desk.run("ls c").done().starts_with("         4  other\n1 list"));
 }
 
+/// Whoever wraps a command in a lock of their own, on the card or on its folder, does not wait for themselves.
 #[test]
-fn a_folder_that_stays_locked() {
-    let desk = Desk::with_card("locked");
-    let folder = fs::File::open(&desk.folder).expect("a folder");
-    folder.lock().expect("locked");
+fn locks_of_others() {
+    let desk = Desk::with_card("others");
+    for path in [desk.folder.clone(), desk.path("c")] {
+        let lock = fs::File::open(path).expect("it is there");
+        lock.lock().expect("locked");
+        desk.pipe("put c a", b"rows").done();
+        desk.pipe("append c a", b" more").done();
+        desk.run("get c a out --force").done();
+        desk.run("format d --blocks 4 --size 64 --force").done();
+        desk.run("cp c a d").done();
+    }
+    assert_eq!(desk.run("get d a").out, b"rows more");
+    assert_eq!(desk.names(), ["c", "d", "out"]);
+}
+
+/// A lock that stays, as of a command that was stopped, is waited for and no longer; one that was left behind is taken over.
+#[test]
+fn a_lock_that_stays() {
+    let desk = Desk::with_card("stays");
+    let lock = fs::File::create(desk.path(".lamporchid-lock-c")).expect("a file");
+    lock.lock().expect("locked");
     let old = desk.read("c");
     desk.pipe("put c a", b"rows").refused(
         74,
-        "cannot write c: another program keeps its folder locked; nothing was changed",
+        "cannot write c: another command has been at it for five seconds; nothing was changed",
     );
-    assert_eq!((desk.read("c"), desk.names()), (old, vec!["c".to_string()]));
+    assert_eq!(
+        (desk.read("c"), desk.names()),
+        (old, vec![".lamporchid-lock-c".to_string(), "c".to_string()])
+    );
     desk.run("check c").done();
-    folder.unlock().expect("unlocked");
+    desk.run("format d --blocks 4 --size 64").done();
+    drop(lock);
     desk.pipe("put c a", b"rows").done();
+    assert_eq!(desk.names(), ["c", "d"]);
 }
 
 /// All have read the same card before any of them writes it: one is done, and the card holds its list and no other.
