@@ -8,7 +8,7 @@ ghost use Rattle.filing.specs.Located.{numbered};
 use blocks::cut::Cut;
 use filing::entries::HEAD;
 use filing::listing::{Row, nth_entry};
-use laying::gather::gather_stream;
+use laying::gather::gather_part;
 use stream::descs::stream;
 
 // Entry number `n` of directory `k`; where there is one, its name goes into the tray.
@@ -18,7 +18,6 @@ pub fn list(card: &[u8], s: Cut, k: usize, n: usize, tray: &mut [u8]) -> Option<
 {
     let t = stream(card, s, k);
     let row = nth_entry(card, s, t, n)?;
-    let n = row.length.min(tray.len());
-    gather_stream(card, s, t, row.at + HEAD, &mut tray[..n]);
+    gather_part(card, s, t, row.at + HEAD, tray, 0, row.length);
     Some(row)
 }

@@ -17,7 +17,7 @@ use blocks::chain::{enough, take_block};
 use blocks::cut::Cut;
 use blocks::growth::grow;
 use blocks::reader::{node, reader};
-use laying::gather::gather_stream;
+use laying::gather::gather_part;
 use laying::lay::lay;
 use layout::Desc;
 use layout::answers::Rule;
@@ -203,8 +203,7 @@ pub extern "C" fn bench_gather(
         reserved,
         flags: 0,
     };
-    let m = n.min(tray.len());
-    gather_stream(&*card, s, t, p, &mut tray[..m]);
+    gather_part(&*card, s, t, p, tray, 0, n);
 }
 
 #[unsafe(no_mangle)]

@@ -1,8 +1,8 @@
 -- Places: one above every number of 64 bits is past the end of every card, so code may stop at the highest.
 use mathlib.Core.Path.{◌≡◌, sym, ◌∙◌}
 use mathlib.Core.List.{List}
-use Prim.Native.Nat.{ℕ, ◌+◌, ◌*◌, ◌/◌, min, ◌≤◌, ◌<◌}
-use native.Mathlib.Nat.{min-eq_left, le-div_iff_mul-le}
+use Prim.Native.Nat.{ℕ, ◌+◌, ◌*◌, ◌/◌, ◌%◌, min, ◌≤◌, ◌<◌}
+use native.Mathlib.Nat.{min-eq_left, le-mul_of_pos_right, le-div_iff_mul-le, mod-lt}
 use native.Mathlib.Decide.{dec_lt}
 use native.Mathlib.Omega.{arith}
 use lib.ListN.{length, replicate}
@@ -45,6 +45,10 @@ pub taken_is : (c : List ℕ) (s : Shape) → length c ≤ cap → {b n p : ℕ}
 unfolding taken
 taken_is c s whole {b = b} {p = p} e₁ e₂ e₃ e₄ e₅ = e₅ ∙ rw (e₄, over-near c whole (place s b) p e₃ (replicate s.size 0), e₂, e₁)
 
+-- a block whose number 4 bytes do not hold is past the end of a card of 2^32 bytes
+pub far : (c : List ℕ) (base size : ℕ) (whole : length c ≤ 4294967296) (some : 1 ≤ size) (b j : ℕ) → 4294967296 ≤ b → length c ≤ base + b * size + j
+far c base size whole some b j k = omega (arith, le-mul_of_pos_right {m = size} b some)
+
 -- ---- the fan
 
 module _ (size : ℕ) (least : 64 ≤ size) where
@@ -56,3 +60,6 @@ module _ (size : ℕ) (least : 64 ≤ size) where
 
   pub fan_two : 2 ≤ size / 4
   fan_two = omega (arith, fan_four)
+
+  pub slot_small : (j : ℕ) → size ≤ 4096 → j % (size / 4) ≤ 4096
+  slot_small j most = omega (arith, mod-lt j fan_pos)

@@ -28,6 +28,7 @@ use samples::kinds::Kind;
 use samples::sizes::BlockSize;
 use sound::check::check;
 use std::alloc::Global;
+use std::io;
 
 // How many cards are made of a kind, and how many of a clause.
 const OF_KIND: usize = 70;
@@ -61,6 +62,14 @@ fn damaged<D: Damage>(alloc: Global, damage: &D, draws: Draws) -> Result<Card, F
     Ok(card)
 }
 
+// A fault as the system would tell it.
+fn told(fault: Fault) -> io::Error {
+    match fault {
+        Fault::OutOfMemory => io::Error::from(io::ErrorKind::OutOfMemory),
+        Fault::NoSuchPart => io::Error::other("the card has no such part"),
+    }
+}
+
 // Makes a card, and writes its line.
 fn write_card<D: Damage>(
     rt: &impl Print,
@@ -68,9 +77,9 @@ fn write_card<D: Damage>(
     (name, damage): &(&str, D),
     state: usize,
     i: usize,
-) -> anyhow::Result<()> {
-    let card = damaged(alloc, damage, Draws::new(state, i))?;
-    let shown = card.image.shown().ok_or(Fault::NoSuchPart)?;
+) -> io::Result<()> {
+    let card = damaged(alloc, damage, Draws::new(state, i)).map_err(|fault| told(fault))?;
+    let shown = card.image.shown().ok_or_else(|| told(Fault::NoSuchPart))?;
     println!(rt; "{name} {i} {} {}", broken(shown), sum(0, 256, shown))?;
     Ok(())
 }
@@ -82,7 +91,7 @@ fn write_cards<D: Damage>(
     rule: usize,
     clauses: &[(&str, D)],
     cards: usize,
-) -> anyhow::Result<()>
+) -> io::Result<()>
     requires { (rule ≤ 8) × (length clauses.now ≤ 100) × (cards ≤ 100) }
 {
     for (k, clause) in clauses.iter().enumerate() {
@@ -100,13 +109,13 @@ fn write_rule<D: Damage>(
     alloc: Global,
     rule: Rule,
     clauses: &[(&str, D)],
-) -> anyhow::Result<()>
+) -> io::Result<()>
     requires { length clauses.now ≤ 100 }
 {
     write_cards(rt, alloc, rule.number(), clauses, OF_CLAUSE)
 }
 
-fn main(rt: HostRuntime) -> anyhow::Result<()> {
+fn main(rt: HostRuntime) -> io::Result<()> {
     let alloc = rt.alloc();
     write_cards(&rt, alloc, SOUND, &undamaged::KINDS, OF_KIND)?;
     write_rule(&rt, alloc, Rule::Length, &lengths::SHORT)?;

@@ -2,7 +2,7 @@
 use mathlib.Core.Path.{◌≡◌, refl, sym, ap, ◌∙◌}
 use mathlib.Core.List.{List, [], ◌∷◌, ◌++◌, map}
 use Prim.Native.Nat.{ℕ, zero, suc, ◌+◌, ◌-◌, ◌*◌, ◌/◌, ◌%◌, min, ◌≤◌, ◌<◌}
-use native.Mathlib.Nat.{add-zero, zero-add, add-mul, mod-lt, div-add-mod', mul-le-mul_right, min-eq_left}
+use native.Mathlib.Nat.{add-zero, zero-add, add-mul, mod-lt, div-add-mod', mul-le-mul, mul-le-mul_right, min-eq_left}
 use native.Mathlib.Decide.{dec_le, dec_lt}
 use native.Mathlib.Omega.{arith}
 use lib.ListN.{length, get_or, take, drop, drop_of_length-le, length-take, length-drop}
@@ -20,6 +20,9 @@ use Rattle.laying.specs.Gathered.{gathered}
 use Rattle.layout.specs.declared.Shape.{Shape}
 
 -- ---- numbers of one row
+
+pub row_fits : (s : Shape) (i : ℕ) → s.size ≤ 4096 → (fan s - i) * s.size ≤ 4194304
+row_fits s i most = let a : fan s - i ≤ 1024 = omega arith in omega (arith, mul-le-mul a most)
 
 pub row_room : (s : Shape) (i r : ℕ) → i < fan s → r < s.size → r < (fan s - i) * s.size
 row_room s i r h k = let one : 1 * s.size ≤ (fan s - i) * s.size = mul-le-mul_right s.size (omega arith) in omega arith

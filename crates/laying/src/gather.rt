@@ -106,3 +106,12 @@ pub fn gather_stream(card: &[u8], s: Cut, t: Desc, p: usize, tray: &mut [u8])
         gather_rows(&*card, s, top, h, p, &mut tray[..m]);
     }
 }
+
+// The same from byte `at` of the tray on, and `n` bytes at most; nothing past the tray's end.
+pub fn gather_part(card: &[u8], s: Cut, t: Desc, p: usize, tray: &mut [u8], at: usize, n: usize)
+    ensures { tray.new ≡ over tray.old at (take n (drop p (contents card.now s t.top (data_of s t) t.size))) }
+{
+    let from = at.min(tray.len());
+    let m = n.min(tray.len() - from);
+    gather_stream(card, s, t, p, &mut tray[from..from + m]);
+}

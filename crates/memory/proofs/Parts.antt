@@ -27,27 +27,39 @@ over_part l vs ys at a m e f g =
       | no u ↦ let same : a ≡ at = omega arith in rw (same, g) (over-take vs l at m (omega arith))
     ]
 
--- the same of bytes that a call laid over the front, as many as the front has room for
-pub front_over : (l new vs : List ℕ) (k m n : ℕ) → k ≡ m → m ≡ min n (length l) → new ≡ over (take k (drop 0 l)) 0 (take (length (take k (drop 0 l))) vs) → put_mid 0 k l new ≡ over l 0 (take n vs)
-front_over l new vs k m n e f g =
-    let long : length (take k l) ≡ m = rw length-take (omega arith) in
-    let new-is : new ≡ over (take k l) 0 (take m vs) = rw long at g in
-    let same-long : length new ≡ m = ap length new-is ∙ length_over (take k l) 0 (take m vs) ∙ long in
+-- the same of bytes that a call laid over a part, as many as the part has room for
+pub part_over : (l new vs : List ℕ) (at a k m n : ℕ) → a ≡ min at (length l) → k ≡ m → m ≡ min n (length l - a) → new ≡ over (take k (drop a l)) 0 (take (length (take k (drop a l))) vs) → put_mid a k l new ≡ over l at (take n vs)
+part_over l new vs at a k m n d e f g =
+    let part = take k (drop a l) in
+    let long : length part ≡ m = rw (length-take, length-drop) (omega arith) in
+    let new-is : new ≡ over part 0 (take m vs) = rw long at g in
+    let same-long : length new ≡ m = ap length new-is ∙ length_over part 0 (take m vs) ∙ long in
     let some = length-take m vs in
-    let each : (i : ℕ) → i < length (over l 0 new) → get_or (over l 0 new) i 0 ≡ get_or (over l 0 (take m vs)) i 0 =
-    λ i h. let there : i < length l = omega (arith, h, length_over l 0 new) in elim (dec_lt i (length (take m vs))) [
-      | yes u ↦ over_in l 0 new i i (omega arith) (omega arith) there ∙ ap (λ (x : List ℕ). get_or x i 0) new-is ∙ over_in (take k l) 0 (take m vs) i i (omega arith) u (omega arith) ∙ sym (over_in l 0 (take m vs) i i (omega arith) u there)
-      | no u ↦ elim (dec_lt i m) [
-        | yes v ↦ over_in l 0 new i i (omega arith) (omega arith) there ∙ ap (λ (x : List ℕ). get_or x i 0) new-is ∙ over_out (take k l) 0 (take m vs) i (λ a b. omega arith) ∙ get_or-take k l i 0 (omega arith) ∙ sym (over_out l 0 (take m vs) i (λ a b. omega arith))
-        | no v ↦ over_out l 0 new i (λ a b. omega arith) ∙ sym (over_out l 0 (take m vs) i (λ a b. omega arith))
+    let each : (i : ℕ) → i < length (over l a new) → get_or (over l a new) i 0 ≡ get_or (over l a (take m vs)) i 0 =
+    λ i h. let there : i < length l = omega (arith, h, length_over l a new) in elim (dec_lt i a) [
+      | yes w ↦ over_out l a new i (λ x y. omega arith) ∙ sym (over_out l a (take m vs) i (λ x y. omega arith))
+      | no w ↦ elim (dec_lt (i - a) (length (take m vs))) [
+        | yes u ↦ over_in l a new i (i - a) (omega arith) (omega arith) there ∙ ap (λ (x : List ℕ). get_or x (i - a) 0) new-is ∙ over_in part 0 (take m vs) (i - a) (i - a) (omega arith) u (omega arith) ∙ sym (over_in l a (take m vs) i (i - a) (omega arith) u there)
+        | no u ↦ elim (dec_lt (i - a) m) [
+          | yes v ↦ over_in l a new i (i - a) (omega arith) (omega arith) there ∙ ap (λ (x : List ℕ). get_or x (i - a) 0) new-is ∙ over_out part 0 (take m vs) (i - a) (λ x y. omega arith) ∙ get_or-take k (drop a l) (i - a) 0 (omega arith) ∙ get_or-drop a l (i - a) 0 ∙ ap (λ (x : ℕ). get_or l x 0) (omega arith) ∙ sym (over_out l a (take m vs) i (λ x y. omega arith))
+          | no v ↦ over_out l a new i (λ x y. omega arith) ∙ sym (over_out l a (take m vs) i (λ x y. omega arith))
+        ]
       ]
     ] in
     let fewer : take m (take n vs) ≡ take m vs = take-take m n vs (omega arith) in
-    let enough : min (length (take n vs)) (length l - 0) ≤ m = rw length-take (omega arith) in
-    over_mid l new 0 k (omega arith) (omega arith)
-    ∙ ext_get_or 0 _ _ (length_over l 0 new ∙ sym (length_over l 0 (take m vs))) each
-    ∙ ap (over l 0) (sym fewer)
-    ∙ over-take (take n vs) l 0 m enough
+    let enough : min (length (take n vs)) (length l - a) ≤ m = rw length-take (omega arith) in
+    over_mid l new a k (omega arith) (omega arith)
+    ∙ ext_get_or 0 _ _ (length_over l a new ∙ sym (length_over l a (take m vs))) each
+    ∙ ap (over l a) (sym fewer)
+    ∙ over-take (take n vs) l a m enough
+    ∙ elim (dec_lt (length l) at) [
+      | yes u ↦ over_past (take n vs) l a (omega arith) ∙ sym (over_past (take n vs) l at (omega arith))
+      | no u ↦ ap (λ (x : ℕ). over l x (take n vs)) (omega arith)
+    ]
+
+-- the same of the front
+pub front_over : (l new vs : List ℕ) (k m n : ℕ) → k ≡ m → m ≡ min n (length l) → new ≡ over (take k (drop 0 l)) 0 (take (length (take k (drop 0 l))) vs) → put_mid 0 k l new ≡ over l 0 (take n vs)
+front_over l new vs k m n e f g = part_over l new vs 0 0 k m n (omega arith) e (omega arith) g
 
 -- written over from end to end
 pub over-whole : (l vs : List ℕ) → length vs ≡ length l → over l 0 vs ≡ vs

@@ -3,23 +3,27 @@ use mathlib.Core.Path.{◌≡◌, refl, sym, ap, ◌∙◌}
 use mathlib.Core.Logic.{◌≢◌}
 use mathlib.Core.Bool.{Bool, true, false}
 use mathlib.Core.List.{List, [], ◌∷◌, map}
-use Prim.Native.Nat.{ℕ, zero, suc, ◌+◌, ◌-◌, ◌*◌, ◌^◌, min, ◌≤◌, ◌<◌}
+use Prim.Native.Nat.{ℕ, zero, suc, ◌+◌, ◌-◌, ◌*◌, ◌%◌, ◌^◌, min, ◌≤◌, ◌<◌}
+use native.Mathlib.Nat.{div-add-mod', mod-lt, mul-le-mul}
 use native.Mathlib.Decide.{dec_le}
 use native.Mathlib.Omega.{arith}
 use lib.ListN.{length, set, replicate, length-map}
-use lib.Dec.{leb, T}
+use lib.Dec.{leb, eqb, T}
 use Rattle.std.specs.Prelude.{Option, Some, None}
 use Rattle.std.proofs.lemmas.Option.{none-some}
 use Rattle.layout.specs.Limits.{most_streams}
 use Rattle.layout.specs.Bytes.{pick, both, num, over, run, those, all_b}
+use Rattle.layout.specs.Pyramid.{up}
+use Rattle.layout.specs.Ranges.{Small}
 use Rattle.layout.specs.Marks.{fresh, mark_ok, mark_set}
-use Rattle.layout.specs.Streams.{desc_of, live, lives, slots, stream, stream_bytes, table_bytes}
+use Rattle.layout.specs.Streams.{data_of, desc_of, live, lives, frees, desc_chain, slots, stream, stream_bytes, table_bytes}
 use Rattle.layout.specs.Filing.{Entry, name_length, entry_at, entries_from, entries, entries_of, good_name, reads, reads_from, distinct_names, good_directory}
-use Rattle.layout.specs.Sound.{same_set, reached, rule4, rule8}
+use Rattle.layout.specs.Sound.{right_desc, live_form, free_form, good_form, same_set, reached, rule4, rule5, rule8}
 use Rattle.laws.proofs.Picks.{leb_yes, leb_no}
 use Rattle.laws.proofs.Lists.{in_run, length_run}
 use Rattle.laws.proofs.Sets.{distinct_le}
-use Rattle.laws.proofs.Tests.{is_separate}
+use Rattle.laws.proofs.Laying.{length-contents}
+use Rattle.laws.proofs.Tests.{is_both, is_eqb, is_leb, is_itself, is_all, is_separate}
 use Rattle.laws.proofs.Marking.{mark-separate}
 use Rattle.filing.specs.Paged.{piece_size, piece_at}
 use Rattle.filing.proofs.Finding.{entries-start, entries-step, entries_stop}
@@ -166,6 +170,35 @@ module _ (r : List ℕ) where
   tidy_low : tidy_from r 0 ≡ true → length (entries r) ≤ most_streams → length r < 2 ^ 32
   tidy_low t few = omega (arith, short_from (length r) 0 (omega arith) t, ap length (entries-start r), few)
 
+-- what a right descriptor reserves is no more than the card's blocks hold
+pub right_small : (c : List ℕ) (s : Shape) (t : Desc) → Small c s → T (right_desc s t) → t.size < 2 ^ 32
+unfolding right_desc
+right_small c s t small h =
+    let w = (is_both (is_eqb t.flags 0) (is_both (is_eqb t.reserved (up s.size t.size * s.size)) (is_leb (data_of s t) s.count))).out h in
+    let x = t.size + (s.size - 1) in
+    let a = div-add-mod' x s.size in
+    let b : x % s.size < s.size = mod-lt x (omega (arith, small.least)) in
+    let d = div-add-mod' t.reserved s.size in
+    let e : t.reserved % s.size < s.size = mod-lt t.reserved (omega (arith, small.least)) in
+    let m : data_of s t * s.size ≤ 4096 * 4096 = mul-le-mul {n₁ = data_of s t} {n₂ = 4096} (omega (arith, w.1.1, small.count)) small.most in
+    omega (arith, w.1.0, small.least, small.most)
+
+lives_right : (s : Shape) (t : Desc) → T (live_form s t) → T (right_desc s t)
+unfolding live_form
+lives_right s t h = ((is_both (is_itself (right_desc s t)) (is_itself (pick (eqb (data_of s t) 0) (eqb t.top 0) true))).out h).0
+
+-- a root that passed rule 5 is live and right
+pub root_right : (c : List ℕ) (s : Shape) → 1 ≤ slots (table_bytes c s) → rule5 c s ≡ true → T (right_desc s (stream c s 0))
+unfolding rule5 stream
+root_right c s one e =
+    let l = table_bytes c s in
+    let w = (is_both (is_all (good_form s l) (λ k. T (good_form s l k)) (run 0 (slots l)) (λ k. is_itself (good_form s l k))) (is_both (is_itself (same_set (desc_chain l) (frees l))) (is_itself (live l 0)))).out (rw e tt) in
+    alive (live l 0) w.1.1 (w.0 0 (in_run 0 (slots l) 0 (omega arith) (omega arith)))
+  where
+    alive : (b : Bool) → T b → T (pick b (live_form s (desc_of (table_bytes c s) 0)) (free_form (desc_of (table_bytes c s) 0))) → T (right_desc s (desc_of (table_bytes c s) 0))
+    alive true t h = lives_right s (desc_of (table_bytes c s) 0) h
+    alive false t h = absurd t
+
 -- ---- the rule
 
 tidy_reads : (r : List ℕ) → both (tidy_from r 0) (distinct_names (entries r)) ≡ good_directory r
@@ -188,6 +221,12 @@ module _ (c : List ℕ) (s : Shape) (tab : List ℕ) (n : ℕ) (t : Desc) (four 
   bytes_are : bytes_of c s t ≡ stream_bytes c s 0
   unfolding stream_bytes
   bytes_are = rw root_is
+
+  pub root-low : Small c s → rule5 c s ≡ true → t.size < 2 ^ 32
+  root-low small five = rw root_is (right_small c s (stream c s 0) small (root_right c s (omega (arith, (slots-few c s n four many).0)) five))
+
+  pub root-short : Small c s → rule5 c s ≡ true → length (bytes_of c s t) < 2 ^ 32
+  root-short small five = rw (length-contents c s t.top (data_of s t) t.size) (root-low small five)
 
   abbrev ks : List ℕ
   ks = indices (entries (bytes_of c s t))

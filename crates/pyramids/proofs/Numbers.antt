@@ -1,7 +1,7 @@
 -- The loops over levels: one turn of each, and where it ends.
 use mathlib.Core.Path.{◌≡◌, refl, sym, ap, ◌∙◌}
 use Prim.Native.Nat.{ℕ, zero, suc, ◌+◌, ◌-◌, ◌*◌, ◌/◌, ◌%◌, ◌≤◌, ◌<◌}
-use native.Mathlib.Nat.{div-lt_iff_lt-mul, mul-le-mul_left, mul-le-mul_right}
+use native.Mathlib.Nat.{add-div_right, div-lt_iff_lt-mul, mul-le-mul_left, mul-le-mul_right}
 use native.Mathlib.Numerals.{add-one}
 use native.Mathlib.Decide.{ℕ_discrete}
 use native.Mathlib.Omega.{arith}
@@ -9,6 +9,9 @@ use borrow.Author.Tests.{eq-eqb, ne_eqb}
 use Rattle.layout.specs.Pyramid.{up, level, above, missing}
 
 -- ---- rounding up
+
+pub up_pos : (f n : ℕ) → 0 < f → 1 ≤ n → (n - 1) / f + 1 ≡ up f n
+up_pos f n h k = let e : n + (f - 1) ≡ (n - 1) + f = omega arith in rw e (sym (add-div_right (n - 1) h))
 
 grow4 : (f m : ℕ) → 4 ≤ f → 1 ≤ m → m + m + 1 + (f - 1) < (m + 1) * f
 grow4 f m h k = omega (arith, mul-le-mul_left {m = 4} {n = f} (m + 1) h, mul-le-mul_right {m = 2} {n = m + 1} f (omega arith))

@@ -50,7 +50,7 @@ impl Kind {
 
     // The shift of its run `i`.
     fn shift(self, i: usize) -> usize
-        ensures { result ≤ 12 }
+        ensures { (6 ≤ result) × (result ≤ 12) }
     {
         match self {
             Kind::Tall => 6,
@@ -133,6 +133,7 @@ pub struct Run {
     pub kind: Kind,
     pub shift: usize,
     pub len: usize,
+    ghost in_range: { (6 ≤ shift) × (shift ≤ 12) },
 }
 
 impl Run {
@@ -150,7 +151,7 @@ impl Run {
 
     // The bytes of its blocks.
     pub fn block(self) -> usize
-        ensures { (1 ≤ result) × (result ≤ 4096) }
+        ensures { (64 ≤ result) × (result ≤ 4096) }
     {
         block_bytes(self.shift)
     }

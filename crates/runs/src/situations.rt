@@ -1,5 +1,5 @@
 // Five cards, and on each all calls with all their arguments (R8, R9).
-ghost use Rattle.std.specs.Prelude.{◌≡◌, length};
+ghost use Rattle.std.specs.Prelude.{◌≡◌, ◌≤◌, length};
 
 use crate::calls::{Call, Op};
 use crate::damage::{Damage, Spoilt};
@@ -23,14 +23,18 @@ impl Op {
         }
     }
 
-    fn places(self) -> &'static [usize] {
+    fn places(self) -> &'static [usize]
+        ensures { (1 ≤ length result.now) × (length result.now ≤ 5) }
+    {
         match self {
             Op::Format | Op::Write | Op::Read | Op::Truncate | Op::List => &PLACES,
             _ => &PLACES[..1],
         }
     }
 
-    fn lengths(self) -> &'static [usize] {
+    fn lengths(self) -> &'static [usize]
+        ensures { (1 ≤ length result.now) × (length result.now ≤ 4) }
+    {
         match self {
             Op::Write | Op::Read | Op::List => &LENGTHS,
             _ => &LENGTHS[..1],

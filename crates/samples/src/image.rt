@@ -1,5 +1,5 @@
 // The bytes of a card, with one block more, and how many of them are shown.
-ghost use Rattle.std.specs.Prelude.{◌≡◌, ◌+◌, ◌*◌, ◌^◌, vec_len, take, IfOk, IfSome};
+ghost use Rattle.std.specs.Prelude.{◌≡◌, ◌+◌, ◌*◌, ◌^◌, ◌<◌, vec_len, take, IfOk, IfSome};
 
 use crate::draws::Draws;
 use crate::owners::Stream;
@@ -76,7 +76,9 @@ impl Image {
     }
 
     // Where a byte of a stream's contents stands.
-    fn spot(&self, stream: &Stream, at: u32) -> Option<usize> {
+    fn spot(&self, stream: &Stream, at: u32) -> Option<usize>
+        ensures { IfSome result (λ p. p < 2 ^ 32) }
+    {
         let z = u32::from(self.block.bytes());
         let block = *stream.blocks.get((at / z) as usize)?;
         Some(self.block.start(block) as usize + (at % z) as usize)

@@ -39,7 +39,9 @@ impl Stream {
     }
 
     // Settles how many blocks it has: so many.
-    fn shape(&mut self, block: BlockSize) -> Option<u32> {
+    fn shape(&mut self, block: BlockSize) -> Option<u32>
+        ensures { IfSome result (λ n. n ≤ 262140) }
+    {
         self.widths = block.rows(block.data_blocks(self.size)?);
         let [data, low, high, highest] = self.widths;
         Some(u32::from(data) + u32::from(low) + u32::from(high) + u32::from(highest))

@@ -1,5 +1,5 @@
 // What a card is to hold.
-ghost use Rattle.std.specs.Prelude.{◌≡◌, ◌+◌, ◌*◌};
+ghost use Rattle.std.specs.Prelude.{◌≡◌, ◌+◌, ◌*◌, ◌<◌};
 
 use crate::draws::Draws;
 use crate::entries::{Entry, Style};
@@ -42,7 +42,10 @@ pub struct Plan {
 
 impl Plan {
     // An entry of the root, drawn.
-    pub fn any_entry(&mut self) -> usize {
+    pub fn any_entry(&mut self) -> usize
+        ensures bound { result < 2147483647 }
+        ensures within { 0 < self.old.listed → result < self.old.listed }
+    {
         self.draws.below(self.listed) as usize
     }
 

@@ -2,12 +2,13 @@
 use mathlib.Core.Path.{◌≡◌}
 use mathlib.Core.Bool.{true}
 use mathlib.Core.List.{List}
-use Prim.Native.Nat.{ℕ, ◌-◌, ◌/◌, ◌%◌, ◌^◌, ◌≤◌}
-use native.Mathlib.Nat.{pow-le-pow_right}
+use Prim.Native.Nat.{ℕ, ◌-◌, ◌*◌, ◌/◌, ◌%◌, ◌^◌, ◌≤◌}
+use native.Mathlib.Nat.{div-add-mod', mul-le-mul, pow-le-pow_right}
 use native.Mathlib.Omega.{arith}
 use lib.ListN.{length}
 use Rattle.layout.specs.Limits.{least_shift, most_shift, most_blocks}
 use Rattle.layout.specs.Header.{head_length, shift_of, shape_of}
+use Rattle.layout.specs.Ranges.{Small}
 use Rattle.layout.specs.Sound.{rule3}
 use Rattle.laws.proofs.Tests.{is_both, is_leb, is_eqb}
 use Rattle.blocks.specs.Narrow.{Narrow}
@@ -33,3 +34,14 @@ module _ (c : List ℕ) (e : rule3 c ≡ true) where
       let low : 64 ≤ z = pow-le-pow_right {n = 2} (omega arith) {i = 6} {j = shift_of c} facts.0 in
       let high : z ≤ 4096 = pow-le-pow_right {n = 2} (omega arith) {i = shift_of c} {j = 12} facts.1 in
       rw f (record { base = omega arith; least = low; most = high; count = facts.3; first = omega arith; table = omega arith })
+
+  pub small-shape : (s : Shape) → s ≡ shape_of c → Small c s
+  unfolding shape_of
+  small-shape s f =
+      let n = length c - head_length in
+      let z = 2 ^ shift_of c in
+      let low : 64 ≤ z = pow-le-pow_right {n = 2} (omega arith) {i = 6} {j = shift_of c} facts.0 in
+      let high : z ≤ 4096 = pow-le-pow_right {n = 2} (omega arith) {i = shift_of c} {j = 12} facts.1 in
+      let d = div-add-mod' n z in
+      let m : n / z * z ≤ 4096 * 4096 = mul-le-mul {n₁ = n / z} {n₂ = 4096} facts.3 high in
+      rw f (record { base = omega arith; least = low; most = high; count = facts.3; first = omega arith; table = omega arith; whole = omega (arith, facts.2) })

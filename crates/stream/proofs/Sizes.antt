@@ -1,12 +1,34 @@
 -- Streams made longer and shorter: the steps of the work give the definition.
 use mathlib.Core.Path.{◌≡◌, ◌∙◌}
 use mathlib.Core.List.{List}
-use Prim.Native.Nat.{ℕ, ◌+◌}
+use Prim.Native.Nat.{ℕ, ◌+◌, ◌-◌, ◌*◌, ◌/◌, ◌^◌, ◌≤◌, ◌<◌}
+use native.Mathlib.Nat.{div-lt_iff_lt-mul, div-add-mod', mul-le-mul_left}
+use native.Mathlib.Omega.{arith}
 use Rattle.layout.specs.Pyramid.{up}
 use Rattle.layout.specs.Blocks.{released, surplus, lowered_top}
 use Rattle.layout.specs.Streams.{data_of, data_at, grown_for, table, table_set, table_lengthened, stream, desc_set, lengthened, shortened}
 use Rattle.layout.specs.declared.Shape.{Shape}
 use Rattle.layout.specs.declared.Desc.{Desc}
+
+-- ---- numbers that fit
+
+module _ (s : Shape) (least : 64 ≤ s.size) (most : s.size ≤ 4096) where
+  big : 0 < s.size
+  big = omega arith
+
+  wide : (k : ℕ) → k * 64 ≤ k * s.size
+  wide k = mul-le-mul_left k least
+
+  -- the data blocks that a descriptor names
+  pub data_fits : (r : ℕ) → r < 2 ^ 64 → r / s.size < 2 ^ 58
+  data_fits r h = (div-lt_iff_lt-mul {k = s.size} big).1 (omega (arith, wide (2 ^ 58)))
+
+  -- the data blocks that n bytes want, and their bytes
+  pub up_fits : (n : ℕ) → n < 2 ^ 62 → (up s.size n < 2 ^ 58) × (up s.size n * s.size < 2 ^ 63)
+  up_fits n h =
+      let x = n + (s.size - 1) in
+      let e = div-add-mod' x s.size in
+      ((div-lt_iff_lt-mul {k = s.size} big).1 (omega (arith, wide (2 ^ 58))), omega arith)
 
 -- ---- longer
 

@@ -1,7 +1,5 @@
 -- `acts::list::list` keeps its promise.
 use mathlib.Core.Path.{sym, ◌∙◌}
-use native.Mathlib.Omega.{arith}
-use Rattle.memory.proofs.Parts.{front_over}
 use Rattle.acts.proofs.Naming.{row_is, name_here, name_none}
 use Rattle.acts.proofs.list.list.Goals as goal
 
@@ -13,4 +11,4 @@ returns-in_err-row c =
 pub returns : goal.returns
 returns c =
     let h = row_is _ _ _ _ _ _ c.stream-t.ensures (sym c.in_ok-row.was ∙ c.nth_entry.ensures.numbered) in
-    (h, name_here _ _ _ _ _ c.stream-t.ensures _ _ _ h (front_over _ _ _ _ _ _ (omega arith) c.min-n.ensures c.gather_stream.ensures))
+    (h, name_here _ _ _ _ _ c.stream-t.ensures _ _ _ h c.gather_part.ensures)
